@@ -1,4 +1,4 @@
--- Where the last part of a text begins.
+-- The start of the last part of a text.
 use Rattle.std.proofs.Common.{◌≡◌, ℕ, zero, suc, ◌+◌, ◌-◌, ◌<◌, ◌≤◌, Bool, true, false, cond, eqb, List, [], ◌∷◌, ◌++◌, Option, None, Some, MatchOption, length, take, drop, get_or, refl, sym, ap, subst, ◌∙◌, arith, codes, append-nil, append_assoc}
 use Rattle.std.specs.Prelude.{◌&&◌, ◌||◌, nat_eq, slice_index}
 use Rattle.std.specs.List.{starts_with}
@@ -10,7 +10,7 @@ use Rattle.mg_chain.specs.Seals.{has_mark, is_whole, last_part}
 use Rattle.mg_chain.specs.aids.Parts.{IsStart, part_after}
 use Rattle.mg_chain.proofs.SealLemmas.{has_feed}
 
--- Whether a text begins like a seal (`begins`), or with a line feed and then like a seal (`marks`).
+-- Whether text begins like a seal (`begins`), or with a line feed and then like a seal (`marks`).
 abbrev pub begins : List ℕ → Bool
 begins text = starts_with nat_eq text (codes "# sha256 ")
 
@@ -83,7 +83,7 @@ part_of_start text (suc n) is =
 pub start_marks : (text : List ℕ) (start : ℕ) → IsStart text start → has_mark text ≡ true
 start_marks text start is = mark_drop (start - 1) text is.before
 
--- ## A text of complete lines, and more
+-- ## Complete lines followed by more text
 
 pub part_later : (text more : List ℕ) → has_mark more ≡ true → last_part (text ++ more) ≡ last_part more
 part_later [] more some = refl
@@ -182,7 +182,7 @@ nowhere (b ∷ bs) none = at (marks (b ∷ bs)) refl (nowhere bs (λ k occurs. n
     at true is rest = absurd (none 0 (occurs_at_front (b ∷ bs) is))
     at false is rest = rest
 
--- A text of fewer than 10 bytes has no mark.
+-- Text of fewer than 10 bytes has no mark.
 pub too_short : (text : List ℕ) → length text < 10 → has_mark text ≡ false
 too_short text short = nowhere text (λ k occurs. omega (arith, occurs.fits, short))
 

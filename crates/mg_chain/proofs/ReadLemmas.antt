@@ -10,7 +10,7 @@ use Rattle.mg_chain.specs.Seals.{after_line, after_lines, is_whole, last_part, n
 use Rattle.mg_chain.specs.aids.Reading.{Reading, Reads}
 use Rattle.mg_chain.proofs.PartLemmas.{part_nil}
 
--- At the end of a text, there is no further line to count.
+-- At the end of the text, no further line is counted.
 at_end : (most : ℕ) (seals : Seals) (number : ℕ) (before : List ℕ) → after_lines most seals number before [] ≡ seals
 unfolding after_lines
 at_end zero seals number before = refl
@@ -84,7 +84,7 @@ starts (Some all) hasher seals holds none = record {
   is = ap (λ s. after_lines (length all) s 1 [] all) none;
 }
 
--- At the end of the text, the seals found are those of the whole text.
+-- At the end of the text, the seals found are the seals of the whole text.
 pub ends : (text rest : Option (List ℕ)) (hasher : Sha256) (seals found : Seals) (number : ℕ)
     → Reads text rest hasher seals number → IsAtEnd rest → found ≡ seals → IfSome text (λ all. found ≡ seals_of all)
 ends None rest hasher seals found number reads end same = tt

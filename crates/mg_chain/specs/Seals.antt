@@ -8,11 +8,11 @@ use Rattle.hex.specs.Hex.{encode_lower}
 use Rattle.sha2.specs.Sha256.{sha256}
 use Rattle.mg_chain.specs.declared.seals.Seals.{Seals}
 
--- Whether a line is a seal, right or wrong. An incomplete line is not a seal.
+-- Whether a line is a seal, valid or not. An incomplete line is not a seal.
 abbrev pub is_seal : List ℕ → Bool
 is_seal line = starts_with nat_eq line (codes "# sha256 ") && ends_with nat_eq line (10 ∷ [])
 
--- Whether the last line, if there is one, is complete.
+-- Whether the last line is complete. Empty text has no incomplete line.
 abbrev pub is_whole : List ℕ → Bool
 is_whole [] = true
 is_whole (b ∷ []) = b == 10
@@ -23,8 +23,8 @@ unfoldable pub has_mark : List ℕ → Bool
 has_mark [] = false
 has_mark (b ∷ bs) = starts_with nat_eq (b ∷ bs) (codes "\n# sha256 ") || has_mark bs
 
--- The part of a text that the next seal hashes. It begins with the last line that begins like a seal, right or wrong;
--- if there is no such line, it is the whole text.
+-- The part of a text that the next seal hashes. It begins with the last line that begins like a seal, valid or not.
+-- Without such a line, it is the whole text.
 unfoldable pub last_part : List ℕ → List ℕ
 last_part [] = []
 last_part (b ∷ bs) = if has_mark (b ∷ bs) then last_part bs else b ∷ bs
@@ -37,15 +37,15 @@ seal_end part = encode_lower (sha256 part) ++ 10 ∷ []
 abbrev pub seal_of : List ℕ → List ℕ
 seal_of part = codes "# sha256 " ++ seal_end part
 
--- The line is a seal of the last part of some text. If `known` has a text, it is that text.
+-- The line is a seal of the last part of some text. If `known` has a value, the text is that value.
 abbrev pub IsSeal : Option (List ℕ) → List ℕ → Type 0
 IsSeal known line = (part : List ℕ) × (line ≡ seal_of part) × IfSome known (λ text. last_part text ≡ part)
 
--- These bytes are the end of a seal of the last part of some text. If `known` has a text, it is that text.
+-- These bytes are the end of a seal of the last part of some text. If `known` has a value, the text is that value.
 abbrev pub IsSealEnd : Option (List ℕ) → List ℕ → Type 0
 IsSealEnd known end = (part : List ℕ) × (end ≡ seal_end part) × IfSome known (λ text. last_part text ≡ part)
 
--- The counts after one more seal, right or wrong. Seals after a wrong one are not counted.
+-- The counts after one more seal, valid or not. Seals after an invalid seal are not counted.
 abbrev pub judged : Bool → ℕ → Seals → (wrong : Option ℕ) → Seals
 judged is_right number seals (Some first) = seals
 judged true number seals None = record seals { count = seals.count + 1; right = Some number }

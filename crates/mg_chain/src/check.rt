@@ -5,14 +5,14 @@ ghost use Rattle.mg_chain.specs.Seals.{after_line, is_seal, is_whole, judged, la
 use crate::chain::{Chain, END, MARK};
 use crate::seals::Seals;
 
-/// Returns whether a line is a seal, right or wrong.
+/// Returns whether a line is a seal, valid or not.
 fn is_seal(line: &[u8]) -> bool
     ensures value { result ≡ is_seal line.now }
 {
     line.starts_with(MARK) && line.ends_with(b"\n")
 }
 
-/// Returns whether a line, which is a seal, ends like this.
+/// Returns whether a line, which must be a seal, has this end.
 fn has_end(line: &[u8], end: &[u8; END]) -> bool
     requires seal { IsTrue (is_seal line.now) }
     ensures value { result ≡ bytes_eq (drop 9 line.now) end.now }
@@ -31,7 +31,7 @@ pub struct Check {
 }
 
 impl Check {
-    /// Starts before the first line.
+    /// Creates a check that has not read any line yet.
     pub fn new() -> Self
         ensures text { Holds256 result.chain [] }
         ensures seals { result.seals ≡ no_seals }
@@ -54,7 +54,7 @@ impl Check {
         self.seals
     }
 
-    /// Counts a seal, right or wrong.
+    /// Counts a seal, valid or not.
     fn count(&mut self, is_right: bool, number: u64)
         requires few { self.old.seals.count < number }
         ensures chain { self.new.chain ≡ self.old.chain }

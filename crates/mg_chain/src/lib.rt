@@ -1,9 +1,10 @@
 //! Lines in a text that contain a hash of the text before them: a chain of hashes.
 //!
-//! A seal is a comment: `# sha256` and the SHA-256 (FIPS 180-4), in hexadecimal digits, of the text from the previous
-//! seal on. Since that text begins with the previous seal's line, a seal depends on everything before it.
+//! A seal is a comment: `# sha256` and a SHA-256 (FIPS 180-4) in hexadecimal digits. It hashes the text before the
+//! seal, starting at the previous seal's line or, for the first seal, at the beginning. So a seal depends on everything
+//! before it.
 //!
-//! [`Chain`] makes seals while a text is written. [`read_seals`] reads a text, and finds the first seal that is wrong.
+//! [`Chain`] makes seals while a text is written. [`read_seals`] reads a text, and finds the first invalid seal.
 //!
 //! ```rust
 //! let mut chain = Chain::new();
@@ -12,7 +13,7 @@
 //! text.write_all(&chain.seal_end())?;
 //! ```
 //!
-//! `specs/Seals.antt` defines seals, and how right and wrong ones are counted.
+//! `specs/Seals.antt` defines seals, and how valid and invalid seals are counted.
 #![tactic(auto)]
 
 mod chain;

@@ -1,12 +1,12 @@
-/// The counts of seals and lines in a text, and the line numbers of the first wrong and the last right seal.
+/// The counts of seals and lines in a text, and the line numbers of the first invalid and the last valid seal.
 #[derive(Clone, Copy, Debug, PartialEq, Eq)]
 pub struct Seals {
-    /// How many seals are right, up to the first wrong one.
+    /// How many seals are valid, up to the first invalid seal.
     pub count: u64,
-    /// The line number of the last right seal before any wrong one, or `None` if there is none.
+    /// The line number of the last valid seal before any invalid seal, or `None` if there is no such seal.
     pub right: Option<u64>,
-    /// The line number of the first wrong seal, or `None` if no seal is wrong.
+    /// The line number of the first invalid seal, or `None` if no seal is invalid.
     pub wrong: Option<u64>,
-    /// How many lines the text has. The last one may lack its line feed.
+    /// How many lines the text has. The last line may lack its line feed.
     pub lines: u64,
 }

@@ -1,4 +1,4 @@
--- The lines of one more step.
+-- The lines that one more step adds.
 use Rattle.std.proofs.Common.{◌≡◌, ℕ, zero, suc, ◌+◌, ◌*◌, ◌/◌, ◌%◌, ◌<◌, Bool, true, false, ◌==◌, nat_lt, List, [], ◌++◌, refl, sym, ap, ap₂, ◌∙◌, append_assoc, arith, ltb-true}
 use Rattle.std.proofs.lemmas.List.{append-nil}
 use Rattle.std.proofs.lemmas.Nat.{div-add-mod', div-mul-add, mod-mul-add, mod_below}
@@ -24,7 +24,7 @@ text_at polls k r lt = ap₂ (λ a b. repeat a (period_lines polls) ++ repeat b 
 not_zero : (n : ℕ) → (n + 1 == 0) ≡ false
 not_zero n = grind (arith, nat_tests)
 
--- A step that is only a poll adds the lines of that step.
+-- If the next step is only a poll, the text grows by the lines of that step.
 poll_more : (polls k r : ℕ) → r + 1 < polls →
     text polls (k * polls + r + 1) ≡ text polls (k * polls + r) ++ step_lines polls (k * polls + r + 1)
 poll_more polls k r lt =
@@ -36,7 +36,7 @@ poll_more polls k r lt =
     ∙ sym (append_assoc (repeat k (period_lines polls)) (repeat r poll_line) poll_line)
     ∙ ap₂ (λ (a b : List ℕ). a ++ b) (sym (text_at polls k r (omega (arith, lt)))) (sym lines)
 
--- A step that is both a poll and a tick adds the lines of that step.
+-- If the next step is both a poll and a tick, the text grows by the lines of that step.
 tick_more : (k r : ℕ) → text (r + 1) (k * (r + 1) + r + 1) ≡ text (r + 1) (k * (r + 1) + r) ++
     step_lines (r + 1) (k * (r + 1) + r + 1)
 tick_more k r =

@@ -32,7 +32,7 @@ keeps_appends (Some a) None c xs k h = absurd k
 keeps_appends (Some a) (Some b) None xs k h = absurd h
 keeps_appends (Some a) (Some b) (Some c) xs k h = h ∙ ap (λ l. l ++ xs) k
 
--- If the tick is not due at one more reading, and a wait follows it, the readings and waits still fit.
+-- If the tick is not due at one more reading, and the clock waits after that reading, `IsReadEarly` still holds.
 pub read_more : (tick count t d : ℕ) (old : ClockSeen) (r w s v z x : Option (List ℕ)) →
     IsReadEarly tick count old (clock_seen r w) →
     Appends r s (t ∷ []) → Keeps w v → t < tick * period → t + d ≡ tick * period →

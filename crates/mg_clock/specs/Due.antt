@@ -14,8 +14,7 @@ ticks_due t = t / period
 abbrev pub steps_due : ℕ → ℕ → ℕ
 steps_due polls t = t * polls / period
 
--- From `t` on, `d` is the time until the next step is due, if `before` steps come before it. The step is due then, and
--- not earlier.
+-- At time `t`, the step after the first `before` steps is due in `d`, and not earlier.
 pub record IsTimeTo (polls before t d : ℕ) : Type 0 where
   pub enough : before < steps_due polls (t + d)
   pub no_longer : (u : ℕ) → t ≤ u → u < t + d → steps_due polls u ≤ before

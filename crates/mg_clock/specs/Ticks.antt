@@ -34,7 +34,7 @@ pub record IsReadEarly (tick count : ℕ) (old new : ClockSeen) : Type 0 where
   pub readings : Appends old.readings new.readings early
   pub slept : Appends old.waits new.waits waits
 
--- The clock was read until the tick was due, at the reading `now` and not at any earlier one.
+-- The clock was read until the tick was due. The tick was due at the reading `now`, and not at any earlier reading.
 pub record IsReadUntilDue (tick now : ℕ) (old new : ClockSeen) : Type 0 where
   pub count : ℕ
   pub before : Option (List ℕ)

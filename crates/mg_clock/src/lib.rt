@@ -14,8 +14,8 @@
 //! [`Watch`] is a clock that can wait, and [`SystemWatch`] is the system's monotonic clock. Times are in nanoseconds
 //! since the start.
 //!
-//! Contracts describe a clock by its readings and waits. Those of a scripted clock are known; those of the system clock
-//! are not.
+//! Contracts describe a clock by its readings and waits. These are known for a scripted clock, but not for the system
+//! clock.
 #![tactic(auto)]
 
 mod clock_failed;

@@ -38,8 +38,8 @@ impl TickSchedule {
     /// Waits until the next tick is due, and then begins it; returns early if a message arrives. After a delay, all
     /// missed ticks are due at once. At most 20 messages are reported before each tick.
     ///
-    /// Fails if the clock can't be read, if 18,446,744,073,709,551,615 ticks have begun, or if the clock was read that
-    /// many times in a row before the tick was due.
+    /// Fails if the clock can't be read, or if 18,446,744,073,709,551,615 ticks have begun. Also fails if the clock was
+    /// read that many times in a row before the tick was due.
     pub fn next_step<K: Watch>(&mut self, watch: &mut K) -> Result<Step, ClockFailed>
         ensures begins { IfOk result (λ step. StepBegins self.old
             (clock_seen (K.readings watch.old) (K.waits watch.old))

@@ -23,7 +23,7 @@ pub trait Watch {
         ensures waits { Keeps (waits self.old) (waits self.new) }
         ensures fails { IfErr result (λ failed. Fails self.new) };
 
-    /// Waits for the given time. If the clock can detect messages, the wait ends early when one arrives. Returns
+    /// Waits for the given time. If the clock can detect messages, the wait ends early when a message arrives. Returns
     /// whether a message arrived.
     fn wait(&mut self, time: Duration) -> bool
         ensures waits { Appends (waits self.old) (waits self.new) (as_nanos time ∷ []) }

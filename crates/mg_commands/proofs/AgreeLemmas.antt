@@ -43,7 +43,7 @@ use Rattle.mg_commands.specs.aids.ByActions.{by_actions, ActionState, ActionsSta
 use Rattle.mg_commands.proofs.FoldLemmas.{shown, same_reply}
 use Rattle.mg_commands.specs.aids.Steps.{action_unless}
 
--- ## What is told
+-- ## Items without the counts of received packets
 
 abbrev reported : List Item → List Item
 reported items = map item_but_received items
@@ -329,7 +329,7 @@ module _ (some : List ℕ) (edits : SameEditsKeepAgreement) (same_stats : SameSt
       ap (λ (z : rooms.Registry). audit_pairs b (members_at z c)) h.rooms
   audit_if false a b c h = refl
 
-  -- Either both fail with the same error, or both report the same about a context, and the gateways agree.
+  -- Either both operations fail with the same error, or both report the same about a context, and the gateways agree.
   abbrev ToldAlike : Result (Gateway × List Item) ErrorNumber → Result (Gateway × List Item) ErrorNumber → Type 0
   ToldAlike x y = EndsAlike some x y
 

@@ -106,7 +106,7 @@ data HasNames : Result Trial ErrorNumber → Type 0 where
 trial_with : CommandParameters → List Name → Result Trial ErrorNumber
 trial_with parameters xs = Ok (record { parameters = parameters; names = xs })
 
--- A list of names, if there is no error, is not empty.
+-- Unless there is an error, the list of names is not empty.
 data AreSome : Result (List Name) ErrorNumber → Type 0 where
   none_by : (e : ErrorNumber) → AreSome (Err e)
   one_of : (x : Name) (xs : List Name) → AreSome (Ok (x ∷ xs))
@@ -160,7 +160,7 @@ trial_fails source c run (Err e) (refused _) h = refl
 
 -- ## Commands
 
--- If the first command and the rest each keep the gateway without a success, so do both together.
+-- If neither the first command nor the rest changes the gateway without a success, neither do both in sequence.
 go_on_keeps : (rest : ActionState → ActionState × Bool) (run : ActionState) (x : ActionState × Bool) → Keeps run x.0 →
     ((s : ActionState) → Keeps s (rest s).0) → Keeps run (continue_with rest x).0
 go_on_keeps rest run (s, true) h k = kept_on run s (rest s).0 h (k s)

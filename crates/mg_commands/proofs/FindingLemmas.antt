@@ -1,4 +1,4 @@
--- A walk over descriptors finds the same as searches through all their parts.
+-- A walk over descriptors has the same findings as searches through all of their parts.
 use Rattle.std.proofs.Common.{◌≡◌, ℕ, ◌+◌, ◌<◌, ◌≤◌, Bool, true, false, ◌||◌, List, [], ◌∷◌, ◌++◌, length, get_or, take, drop, map, append-nil, Option, Some, None, Result, Ok, Err, refl, sym, ap, ◌∙◌}
 use Rattle.std.specs.Prelude.{IfNone}
 use Rattle.std.specs.List.{list_any, flat_map}
@@ -121,7 +121,7 @@ read_then {source} {p} {q} {r} {s} {xs} {ys} {a} {b} {c} h none k =
       found = found_after source xs ys a b c s first k.found;
     }
 
--- ## What is opened
+-- ## Parts split into keyword and content
 
 pub stream_parts_are : (n : ℕ) (x : StreamPart) →
     stream_word n x ∷ flat_map (λ y. Control n y ∷ []) (controls_within x) ≡ stream_parts n x
@@ -155,7 +155,7 @@ checked {source} {a} {r} xs h is = ap (λ (o : Option ErrorNumber). by_fault o a
 
 -- ## Walks
 
--- The walk has reached the i-th element without a fault, and its findings are those of the first `i` elements.
+-- The walk has reached the i-th element without a fault, and its findings are the findings for the first `i` elements.
 pub record HasWalked {X : Type 0} (source : List ℕ) (f : List X → X → Option ErrorNumber) (g : X → List Part)
     (xs : List X) (i : ℕ) (a b : Findings) : Type 0 where
   pub walked : first_after f (take i xs) (drop i xs) ≡ first_after f [] xs

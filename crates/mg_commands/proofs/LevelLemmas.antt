@@ -1,4 +1,4 @@
--- The first fault in the search level by level is the first fault of the parts in text order.
+-- The search level by level finds the first fault of the parts in text order.
 use Rattle.std.proofs.lemmas.Bool.{or_parts}
 use Rattle.std.proofs.Common.{◌≡◌, ℕ, ◌==◌, Bool, true, false, ◌&&◌, ◌||◌, List, [], ◌∷◌, ◌++◌, map, Option, Some, None, refl, sym, ap, ◌∙◌, append_assoc, append-nil, eq-eqb}
 use Rattle.std.specs.List.{list_any, flat_map}
@@ -54,7 +54,8 @@ first_after-append f b (x ∷ xs) ys =
     ∙ ap (λ (l : List _). option_or (option_or (f b x) (first_after f (b ++ x ∷ []) xs)) (first_after f l ys))
     (append_assoc b (x ∷ []) xs)
 
--- If each level searches the parts of an element after those of earlier elements, all levels together search one list.
+-- If each level searches the parts of an element after the parts of earlier elements, all levels together search one
+-- list.
 pub first_after-flat_map : {X : Type 0} (f : List Part → Part → Option ErrorNumber) (g : X → List Part)
     (level : List X → X → Option ErrorNumber) (c : List Part)
     → ((bs : List X) (x : X) → level bs x ≡ first_after f (c ++ flat_map g bs) (g x))
@@ -75,13 +76,13 @@ or_none : (p : Part → Bool) (xs ys : List Part) → list_any p xs ≡ false �
     list_any p (xs ++ ys) ≡ false
 or_none p xs ys e h = none_or p xs ys e ∙ h
 
--- If the parts of no element pass a test, none of the parts of all elements does.
+-- If no part of any element passes a test, no part in the joined list passes it.
 none_in_all : {X : Type 0} (p : Part → Bool) (g : X → List Part) → ((x : X) → list_any p (g x) ≡ false) →
     (xs : List X) → list_any p (flat_map g xs) ≡ false
 none_in_all p g e [] = refl
 none_in_all p g e (x ∷ xs) = or_none p (g x) (flat_map g xs) (e x) (none_in_all p g e xs)
 
--- Some part of all elements passes `p` if and only if some element passes `q`.
+-- Some part in the joined list passes `p` if and only if some element passes `q`.
 any_in_all : {X : Type 0} (p : Part → Bool) (g : X → List Part) (q : X → Bool) → ((x : X) → list_any p (g x) ≡ q x) →
     (xs : List X) → list_any p (flat_map g xs) ≡ list_any q xs
 any_in_all p g q e [] = refl
@@ -127,7 +128,7 @@ module _ (source : List ℕ) where
   controls_flat n c none xs = simp (append-nil, flat_map_single (Control n) xs) at (first_after-flat_map (part_fault source)
       (λ y. Control n y ∷ []) (control_level source n) c (control_flat n c none) [] xs)
 
-  -- ## The words of streams
+  -- ## The keywords of streams
 
   no_word_among_controls : (n : ℕ) (x : StreamPart) (k : ℕ) (ys : List ControlPart) →
       list_any (is_same_part source (stream_word n x)) (map (Control k) ys) ≡ false
@@ -178,7 +179,7 @@ module _ (source : List ℕ) where
       (any_in_all _ _ _ (word_in_stream n x k) ys ∙ and_any (n == k) _ (own_stream n x k) ys)
   word_in_media n x (media.TerminationState b) = or_false _ ∙ no_word_is_state n x b
 
-  -- ## A LocalControl stands before its parts
+  -- ## A LocalControl comes before its parts
 
   abbrev IsGuarded : ℕ → List Part → Type 0
   IsGuarded n c = list_any (is_same_part source (LocalControl n)) c ≡ false → (y : ControlPart) →
@@ -210,13 +211,14 @@ module _ (source : List ℕ) where
 
   -- ## Within a Media descriptor
 
-  -- None of these parts is the same as a part within a Media descriptor.
+  -- No part in this list is the same as a part within a Media descriptor.
   record IsOutside (c : List Part) : Type 0 where
     word : (n : ℕ) (x : StreamPart) → list_any (is_same_part source (stream_word n x)) c ≡ false
     control : (n : ℕ) (x : ControlPart) → list_any (is_same_part source (Control n x)) c ≡ false
     state : (b : Bool) → list_any (is_same_part source (TerminationState b)) c ≡ false
 
-  -- A fault in a part of a stream is that of its keyword or, for a LocalControl, of the parts within.
+  -- The first fault in a part of a stream is the keyword's fault, if the keyword has one. Otherwise, in a LocalControl,
+  -- it is the first fault of the parts inside.
   stream_step : (n : ℕ) (c : List Part) (x : StreamPart) → IsGuarded n c →
       option_or (part_fault source c (stream_word n x)) (first_after (control_level source n) [] (controls_within x))
       ≡ first_after (part_fault source) c (stream_parts n x)

@@ -45,7 +45,7 @@ few_triples source (properties.ContextAudit ws ∷ ps) h = few_triples source ps
 few_triples source (properties.Priority word ∷ ps) h = few_triples source ps h
 few_triples source (properties.Emergency word ∷ ps) h = few_triples source ps h
 
--- ## What is no topology
+-- ## Properties other than a topology
 
 pub no_triples : (p : ContextProperty) → ((xs : List NamedTriple) → ¬ p ≡ properties.Topology xs) → triples_in p ≡ None
 no_triples (properties.Topology xs) h = absurd (h xs refl)

@@ -29,7 +29,7 @@ commands_refused source c s e going h =
     else unless_optional c (with_trial source c s (trial_of source s.gateway s.target c))) going
     ∙ ap (λ (r : Result Trial ErrorNumber). unless_optional c (with_trial source c s r)) h
 
--- An action, given the error with which it is rejected as a whole, if there is one.
+-- The state after an action, given the error that rejects the action as a whole, or `None`.
 abbrev unless_refused : List ℕ → Action → TransactionState → Option ErrorNumber → TransactionState
 unless_refused source a s o =
     option_map_or (λ e. with_item (with_error s (replies.Fault e)) (replies.Action a.context)) o

@@ -150,7 +150,7 @@ members_end : (source : List ℕ) (c : Command) (parameters : CommandParameters)
 unfolding with_names
 members_end source c parameters members i run le = rw (drop_all i members le) refl
 
--- Trying the rest after two successes or failures in a row is the same as trying it after their conjunction.
+-- Using `and_then` with one flag after another is the same as using it once with the conjunction of both flags.
 and_then_twice : (rest : ActionState → ActionState × Bool) (a b : Bool) (run : ActionState) →
     and_then (λ x. and_then rest (x, b)) (run, a) ≡ and_then rest (run, a && b)
 and_then_twice rest true b run = refl
@@ -160,8 +160,8 @@ was_done : (run : ActionState) (a : Bool) → (let x : ActionState × Bool = (ru
 was_done run true = refl
 was_done run false = refl
 
--- The loop over members, before member `i`. Each action represented by the state on entry leads to one that the current
--- state represents.
+-- The loop over members, before member `i`. Each action that the state on entry represents becomes an action that the
+-- current state represents.
 module _ (source : List ℕ) (c : Command) (parameters : CommandParameters) (members : List ℕ) (base : Base)
     (entered kept : ActionKept) (i : ℕ) (were_done : Bool)
     (inside : Leads (IsActionRun base) entered kept
@@ -312,7 +312,7 @@ commands_end : (source : List ℕ) (cs : List Command) (i : ℕ) (run : ActionSt
 unfolding with_commands
 commands_end source cs i run le = rw (drop_all i cs le) refl
 
--- The loop over commands, before command `i`. Each action represented by the state on entry leads to one that the
+-- The loop over commands, before command `i`. Each action that the state on entry represents becomes an action that the
 -- current state represents.
 module _ (source : List ℕ) (cs : List Command) (base : Base) (entered kept : ActionKept) (i : ℕ)
     (inside : Leads (IsActionRun base) entered kept

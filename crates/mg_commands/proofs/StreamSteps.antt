@@ -1,4 +1,4 @@
--- A stream whose number exceeds those of all earlier streams does not repeat any of them.
+-- A stream whose number exceeds the numbers of all earlier streams repeats none of these streams.
 use Rattle.std.proofs.Common.{◌≡◌, ℕ, ◌+◌, ◌==◌, ◌<◌, max, false, List, [], ◌∷◌, ◌++◌, length, get_or, take, Option, refl, ap, arith}
 use Rattle.std.proofs.lemmas.List.{take_more}
 use Rattle.std.proofs.lemmas.Bool.{ne_eqb}
@@ -24,7 +24,7 @@ greatest_next xs i x d g s h lt is front stream most =
     let same : stream_of x ≡ stream_of (get_or xs i d) = ap stream_of is in
     omega (arith, pushed, same, front, stream, most)
 
--- A stream number greater than that of a part does not occur in the part.
+-- A stream number does not occur in a part whose stream number is smaller.
 stands_not : (source : List ℕ) (p : Part) (n : ℕ) (y : MediaPart) → stream_of y < n → appears_in source p n y ≡ false
 stands_not source p n (media.Part x) lt = let other : (n == 1) ≡ false = ne_eqb n 1 (λ q. omega arith) in rw other refl
 stands_not source p n (media.Stream k xs) lt = let other : (n == k) ≡ false = ne_eqb n k (λ q. omega arith) in

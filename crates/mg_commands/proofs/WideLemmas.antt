@@ -251,7 +251,7 @@ commands_wide source (c ∷ cs) run wide =
 wide_more : (xs ys : List Item) → AreWide xs → AreWide ys → AreWide (xs ++ ys)
 wide_more xs ys h k = list_all-append is_wide xs ys ∙ and_from (list_all is_wide xs) (list_all is_wide ys) h k
 
--- ## What is told of a context
+-- ## Items that report about a context
 
 pair_item_wide : (x y : Bool) (a b : ℕ) → is_wide (pair_item x y a b) ≡ true
 pair_item_wide true true a b = triple_wide a b associations.Bothway

@@ -1,5 +1,5 @@
--- The requests of an action for its context, in addition to its commands: a topology, and an audit of the topology (RFC
--- 3525, sections 7.1.18 and 8.2.1). The error numbers and the order of the checks are this project's own.
+-- In addition to its commands, an action can request a topology and an audit of the topology (RFC 3525, sections 7.1.18
+-- and 8.2.1). The error numbers and the order of the checks are this project's own.
 use Rattle.std.specs.Prelude.{ℕ, Bool, true, false, not, List, [], ◌∷◌, ◌++◌, map}
 use Rattle.std.specs.Prelude.{Option, Some, None, Result, Ok, if◌then◌else◌}
 use Rattle.std.specs.List.{list_any}
@@ -46,7 +46,7 @@ abbrev pub is_context_audit : ContextProperty → Bool
 is_context_audit (properties.ContextAudit ws) = true
 is_context_audit _ = false
 
--- Whether a word of a ContextAudit is Topology, the only one supported.
+-- Whether a word of a ContextAudit is Topology, the only supported word.
 abbrev pub is_topology_word : ContextWord → Bool
 is_topology_word words.Topology = true
 is_topology_word _ = false
@@ -65,8 +65,8 @@ abbrev pub is_all : ContextId → Bool
 is_all contexts.All = true
 is_all _ = false
 
--- The error with which an action is rejected as a whole, if there is one: the action names all contexts, or it has a
--- faulty property. The first faulty property in the text counts.
+-- The error with which an action is rejected as a whole, or `None`. The action is rejected if it names all contexts or
+-- has a faulty property. The first faulty property in the text counts.
 abbrev pub action_fault : Action → Option ErrorNumber
 action_fault a =
     if is_all a.context then Some NotServed else first_after context_property_fault [] a.properties
@@ -94,7 +94,7 @@ abbrev pub triples_in : ContextProperty → Option (List NamedTriple)
 triples_in (properties.Topology xs) = Some xs
 triples_in _ = None
 
--- The triples of the topology, if there is one.
+-- The triples of the topology, or none if there is no topology.
 abbrev pub triples_of : List ℕ → Option ℕ → List ContextProperty → List TopologyTriple
 triples_of source made ps =
     map (topology_triple_of source made) (unwrap_or (first_of triples_in ps) [])
@@ -120,7 +120,8 @@ abbrev pub audit_items : List ContextProperty → Gateway → ℕ → List Item
 audit_items ps w c =
     if list_any is_context_audit ps then audit_pairs w (members_at w.rooms c) else []
 
--- The outcome of an action's properties, if it has any: its triples are applied, and then its audit is answered.
+-- The outcome of an action's properties: its triples are applied, and then its audit is answered. Without properties,
+-- nothing happens.
 abbrev pub context_outcome : List ℕ → Option ℕ → List ContextProperty → Gateway → Target
     → Result (Gateway × List Item) ErrorNumber
 context_outcome source made [] w target = Ok (w, [])

@@ -25,7 +25,7 @@ same_other_word others.DigitMap others.DigitMap = true
 same_other_word others.EventBuffer others.EventBuffer = true
 same_other_word _ _ = false
 
--- Whether two parts of a LocalControl are a repetition. Of the named properties, only `nt/jit` must not be repeated.
+-- Whether one part of a LocalControl repeats another. Of the named properties, only `nt/jit` must not be repeated.
 abbrev pub same_control : List ℕ → ControlPart → ControlPart → Bool
 same_control source (controls.Mode a) (controls.Mode b) = true
 same_control source (controls.ReservedValue a) (controls.ReservedValue b) = true
@@ -34,7 +34,7 @@ same_control source (controls.Property a v) (controls.Property b w) =
     is_jitter source a && is_jitter source b
 same_control source _ _ = false
 
--- Whether two parts are a repetition. A word of a stream counts only within its stream, and Stream may be repeated.
+-- Whether one part repeats another. A word of a stream counts only within its stream, and Stream may be repeated.
 abbrev pub is_same_part : List ℕ → Part → Part → Bool
 is_same_part source parts.Media parts.Media = true
 is_same_part source parts.Audit parts.Audit = true

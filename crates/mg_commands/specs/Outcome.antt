@@ -64,8 +64,8 @@ abbrev pub unless_empty : List Name → Result (List Name) ErrorNumber
 unless_empty [] = Err errors.WildcardMatchedNone
 unless_empty (x ∷ xs) = Ok (x ∷ xs)
 
--- The names on which a command is tried, in order: the name in the command or, for `*`, the names of the members when
--- the command starts (RFC 3525, section 6.2.2).
+-- The names on which a command is tried, in order (RFC 3525, section 6.2.2). For `*`, these are the names of the
+-- members when the command starts. Otherwise, it is the name in the command.
 abbrev pub names_for : Gateway → Target → CommandWord → Name → Result (List Name) ErrorNumber
 names_for w target word names.All =
     if takes_all word then unless_empty (map names.Number (members_in w target))
@@ -89,7 +89,7 @@ number_in (names.Number n) = Ok n
 number_in names.Other = Err errors.UnknownTermination
 number_in _ = Err errors.IdentifierNotAllowed
 
--- ## What is reported
+-- ## The parts that a reply reports
 
 -- All settings of a termination's media.
 abbrev pub whole_media : Record → Media

@@ -10,7 +10,7 @@ abbrev pub is_offer : Option MediaSetting → Bool
 is_offer (Some (settings.Offer (x ∷ xs))) = true
 is_offer _ = false
 
--- The descriptors for an AuditValue: those that it audits.
+-- The descriptors for an AuditValue: the descriptors that the command audits.
 abbrev pub descriptors_by_audit : CommandParameters → ReplyDescriptors
 descriptors_by_audit parameters =
     record {
@@ -19,12 +19,12 @@ descriptors_by_audit parameters =
       statistics = parameters.audits_statistics;
     }
 
--- The descriptors after an Add, Modify or Move: those that it audits, and the Local that was set.
+-- The descriptors after an Add, Modify or Move: the descriptors that the command audits, and the Local that was set.
 abbrev pub descriptors_after : CommandParameters → ReplyDescriptors
 descriptors_after parameters =
     record (descriptors_by_audit parameters) { local = is_offer parameters.settings.local }
 
--- The descriptors before a Subtract: those that it audits or, without an audit, the counters.
+-- The descriptors before a Subtract: the descriptors that the command audits or, without an audit, the counters.
 abbrev pub descriptors_before : CommandParameters → ReplyDescriptors
 descriptors_before parameters =
     record (descriptors_by_audit parameters) {

@@ -44,7 +44,7 @@ is_unserved _ = false
 
 -- ## Streams and properties
 
--- Whether a property is `nt/jit`, the only supported one. Case is ignored.
+-- Whether a property is `nt/jit`, the only supported property. Case is ignored.
 unfoldable pub is_jitter : List ℕ → Span → Bool
 is_jitter source name = str_eq_ignore_ascii_case (text_of source name) (codes "nt/jit")
 

@@ -23,7 +23,8 @@ use Rattle.mg_commands.specs.Transaction.{with_action, closed}
 
 -- ## Rejections
 
--- A command that is rejected for a name adds an item with its error, and changes nothing else.
+-- If a command is rejected for one of the terminations that it names, the reply gets an item with the error, and the
+-- transaction counts as stopped. Nothing else changes.
 abbrev pub RefusedNamesChangeNothing : Type 0
 RefusedNamesChangeNothing =
     (source : List ℕ) (c : Command) (parameters : CommandParameters) (name : Name)
@@ -32,7 +33,8 @@ RefusedNamesChangeNothing =
     → with_name source c parameters s name
     ≡ with_error s (replies.Command c.word (written_as (text_of source c.term) name) (Failed e))
 
--- A command that cannot be tried at all adds an item with its error, and changes nothing else.
+-- If a command cannot be tried at all, the reply gets an item with the error, and the transaction stops unless the
+-- command is optional. Nothing else changes.
 abbrev pub RefusedCommandsChangeNothing : Type 0
 RefusedCommandsChangeNothing =
     (source : List ℕ) (c : Command) (s : TransactionState) (e : ErrorNumber)
@@ -40,7 +42,8 @@ RefusedCommandsChangeNothing =
     → with_command source s c ≡ unless_optional c
     (with_error s (replies.Command c.word (written_name (text_of source c.term)) (Failed e)))
 
--- An action that is rejected as a whole, before its commands, changes nothing.
+-- If an action is rejected as a whole, before its commands, the reply gets the error and the end of the action, and the
+-- transaction stops. Nothing else changes.
 abbrev pub RefusedActionsChangeNothing : Type 0
 RefusedActionsChangeNothing =
     (source : List ℕ) (a : Action) (s : TransactionState) (e : ErrorNumber)
@@ -57,8 +60,8 @@ RefusedTopologiesChangeNothing =
     → context_outcome source after.made a.properties after.gateway after.target ≡ Err e
     → with_action source s a ≡ closed (with_error after (replies.Fault e))
 
--- If a command is rejected for one of its names, the others are still tried on the same gateway, and the command counts
--- as failed.
+-- If a command is rejected for one of its names, it is still tried for the other names, on the same gateway. The
+-- command counts as failed.
 abbrev pub OthersAreTried : Type 0
 OthersAreTried =
     (source : List ℕ) (c : Command) (parameters : CommandParameters) (x : Name) (xs : List Name)
@@ -74,13 +77,14 @@ abbrev pub reports_success : Item → Bool
 reports_success (replies.Command word term (Done parts)) = true
 reports_success _ = false
 
--- An action depends on its commands if it has no topology, or if it has a non-optional command whose failure prevents
--- the topology.
+-- Whether an action depends on its commands. It does if it has no topology, or if it has a non-optional command, whose
+-- failure prevents the topology.
 abbrev pub depends_on_commands : Action → Bool
 depends_on_commands a =
     not (list_any is_topology a.properties) || list_any (λ c. not c.is_optional) a.commands
 
--- If all commands that a request tried were rejected, the request leaves the gateway unchanged.
+-- If all commands that a request tried were rejected, and each action depends on its commands, the request leaves the
+-- gateway unchanged.
 abbrev pub RefusedRequestsChangeNothing : Type 0
 RefusedRequestsChangeNothing =
     (source : List ℕ) (request : Request) (w : Gateway)

@@ -24,9 +24,8 @@ use Rattle.mg_commands.specs.Name.{written_as, written_name}
 use Rattle.mg_commands.specs.ContextProperties.{context_outcome, action_fault}
 use Rattle.mg_commands.specs.Outcome.{CommandOutcome, Trial, outcome, trial_of}
 
--- The state of a transaction: the gateway, the action's context, the termination that the action's
--- first Add created, the items of the reply so far, and whether an error has stopped the
--- transaction.
+-- The state of a transaction: the gateway, the action's context, the termination that the action's first Add created,
+-- and the reply's items so far. A flag says whether an error has stopped the transaction.
 pub record TransactionState : Type 0 where
   pub gateway : Gateway
   pub target : Target

@@ -59,7 +59,7 @@ fn context_property_fault(
     }
 }
 
-/// Returns the first error in the properties, in text order, or `None` if there is none.
+/// Returns the first error in the properties, in text order, or `None` if there is no error.
 #[tactic(auto, using(crate::proofs::FaultSteps::walking))]
 fn context_properties_fault(properties: &[ContextProperty]) -> Option<ErrorNumber>
     ensures value { result ≡ first_after context_property_fault [] properties.now }

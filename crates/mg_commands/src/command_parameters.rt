@@ -72,7 +72,7 @@ fn keep_depth(kept: &mut Option<u16>, source: &[u8], part: Part)
     }
 }
 
-/// Stores the content of a Local, unless that of an earlier one is already stored.
+/// Stores the content of a Local, unless the content of an earlier Local is already stored.
 fn keep_local(kept: &mut Option<MediaSetting>, source: &[u8], part: Part)
     ensures value { kept.new ≡ option_or kept.old (local_in source.now part) }
 {
@@ -83,7 +83,7 @@ fn keep_local(kept: &mut Option<MediaSetting>, source: &[u8], part: Part)
     }
 }
 
-/// Stores the content of a Remote, unless that of an earlier one is already stored.
+/// Stores the content of a Remote, unless the content of an earlier Remote is already stored.
 fn keep_remote(kept: &mut Option<MediaSetting>, source: &[u8], part: Part)
     ensures value { kept.new ≡ option_or kept.old (remote_in source.now part) }
 {

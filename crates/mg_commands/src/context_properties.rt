@@ -59,7 +59,7 @@ fn triples_of<const N: usize>(
     topology
 }
 
-/// Returns the triples of the first Topology among the properties, if there is one.
+/// Returns the triples of the first Topology among the properties, or no triples if there is no Topology.
 fn topology_in(properties: &[ContextProperty]) -> &[NamedTriple]
     ensures value { result.now ≡ unwrap_or (first_of triples_in properties.now) [] }
 {
@@ -108,7 +108,7 @@ fn answer_audit(engine: &Engine, properties: &[ContextProperty], context: u32, r
     }
 }
 
-/// Applies the properties of an action. Returns whether this succeeded.
+/// Applies the properties of an action. Returns whether the properties were applied.
 pub fn try_properties(
     engine: &mut Engine,
     source: &[u8],

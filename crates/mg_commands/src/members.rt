@@ -23,8 +23,8 @@ fn members_in(engine: &Engine, target: Target) -> &[u32]
     }
 }
 
-/// Returns the members on which a command for all members is tried (RFC 3525, section 6.2.2). Fails if there are none,
-/// or if the command may not name all members.
+/// Returns the members on which a command for all members is tried (RFC 3525, section 6.2.2). Fails if the context has
+/// no members, or if the command may not name all members.
 pub fn all_members(
     engine: &Engine,
     target: Target,

@@ -20,7 +20,8 @@ use mg_engine::{Engine, Record, Target};
 use mg_reply::Parts;
 use mg_text::{CommandWord, ErrorNumber, Term};
 
-/// Returns the result of a command on a termination. The record is the one that the command left, or subtracted.
+/// Returns the result of a command on a termination. The record is the termination's record after the command or, for a
+/// Subtract, before it.
 fn served_at(
     engine: &Engine,
     target: Target,

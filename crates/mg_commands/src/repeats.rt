@@ -149,8 +149,8 @@ pub fn stream_of(part: &MediaPart) -> u32
 
 /// Returns the earlier parts of a Media descriptor that a part has to be compared with.
 ///
-/// There are none if the part's stream number exceeds all earlier ones. So streams in ascending order cause no
-/// comparisons.
+/// The result is empty if the part's stream number exceeds all earlier stream numbers. So streams in ascending order
+/// cause no comparisons.
 pub fn lookback<'a>(greatest: u32, before: &'a [MediaPart], part: &MediaPart) -> &'a [MediaPart]
     requires greatest { greatest ≡ greatest_stream before.now }
     ensures level { (source : List ℕ) → media_level source result.now part.now ≡

@@ -26,7 +26,8 @@ fn is_offer(setting: &Option<MediaSetting>) -> bool
 }
 
 impl ReplyDescriptors {
-    /// Returns the descriptors after an Add, Modify or Move: those that it audits, and the Local that was set.
+    /// Returns the descriptors after an Add, Modify or Move: the descriptors that the command audits, and the Local
+    /// that was set.
     pub fn after(parameters: &CommandParameters) -> ReplyDescriptors
         ensures value { result ≡ descriptors_after parameters.now }
     {
@@ -37,7 +38,7 @@ impl ReplyDescriptors {
         }
     }
 
-    /// Returns the descriptors for an AuditValue: those that it audits.
+    /// Returns the descriptors for an AuditValue: the descriptors that the command audits.
     pub fn by_audit(parameters: &CommandParameters) -> ReplyDescriptors
         ensures value { result ≡ descriptors_by_audit parameters.now }
     {
@@ -48,7 +49,8 @@ impl ReplyDescriptors {
         }
     }
 
-    /// Returns the descriptors before a Subtract: those that it audits or, without an audit, the counters.
+    /// Returns the descriptors before a Subtract: the descriptors that the command audits or, without an audit, the
+    /// counters.
     pub fn before(parameters: &CommandParameters) -> ReplyDescriptors
         ensures value { result ≡ descriptors_before parameters.now }
     {

@@ -22,7 +22,7 @@ fn whole_media(termination: &Record) -> Media
 }
 
 /// Returns all settings of a termination's media or only its Local, as requested. Returns `None` if neither is
-/// requested, or if only the Local is and the termination has none.
+/// requested. Also returns `None` if only the Local is requested and the termination has no Local.
 fn reply_media(termination: &Record, descriptors: ReplyDescriptors) -> Option<Media>
     ensures value { result ≡ reply_media descriptors termination.now }
 {

@@ -1,4 +1,4 @@
-//! The supported words.
+//! The commands, descriptors and properties that this gateway supports.
 
 ghost use Rattle.std.specs.Prelude.{◌≡◌};
 ghost use Rattle.mg_commands.specs.Support.{is_served_word, takes_all, is_unserved, is_jitter, jitter_of, control_fault, property_fault};
@@ -43,7 +43,7 @@ pub fn is_unserved(part: Part) -> bool
     matches!(part, Part::Other(_, true) | Part::TerminationState(true))
 }
 
-/// Returns whether a property is `nt/jit`, the only one that is supported. Case is ignored.
+/// Returns whether a property is `nt/jit`, the only supported property. Case is ignored.
 #[tactic(auto, unfolding(crate::specs::Support::is_jitter))]
 pub fn is_jitter(source: &[u8], name: Span) -> bool
     ensures value { result ≡ is_jitter source.now name }

@@ -10,8 +10,8 @@ ghost use Rattle.mg_commands.specs.Theorems.{RefusedNamesChangeNothing, RefusedC
 /// The gateway, the action's context and the meaning of `$` are unchanged. This holds for a command on one termination,
 /// and for a command that cannot be tried at all. It also holds for an action that is rejected before its commands are
 /// tried. If an action's topology is rejected, the effects of its commands remain. If a command for all members (`*`)
-/// is rejected for one member, the others are still tried. So a request leaves the gateway unchanged if each command
-/// that was tried was rejected.
+/// is rejected for one member, it is still tried for the others. So a request leaves the gateway unchanged if each
+/// command that was tried was rejected. Each action with a topology must then have a command that isn't optional.
 pub fn refused_commands_change_nothing()
     ensures names { RefusedNamesChangeNothing }
     ensures commands { RefusedCommandsChangeNothing }
@@ -23,7 +23,8 @@ pub fn refused_commands_change_nothing()
 
 /// Every request preserves the consistency of terminations and contexts.
 ///
-/// So they are consistent after any sequence of requests. A proof can use this fact even where no engine is in scope.
+/// So terminations and contexts are consistent after any sequence of requests. A proof can use this fact even where no
+/// engine is in scope.
 pub fn requests_are_consistent()
     ensures theorem { RequestsAreConsistent }
 {

@@ -248,10 +248,11 @@ fn try_actions(engine: &mut Engine, source: &[u8], actions: &[Action], reply: &m
 
 /// Empties the reply, runs a request from the message `source`, and puts the outcomes of its commands into the reply.
 ///
-/// Commands are tried in order, up to the first one that fails. A command for all members (`*`) is tried on all of
-/// them, and fails if it fails for any. If an optional command (`O-`) fails, the next commands are still tried. When an
-/// action's commands have run, its triples are applied, all or none, and then its audit is answered. An action that is
-/// rejected as a whole, before or after its commands, ends the request even if its commands are optional.
+/// Commands are tried in order, up to the first command that fails. A command for all members (`*`) is tried on every
+/// member, and fails if it fails for any member. If an optional command (`O-`) fails, the next commands are still
+/// tried. When an action's commands have run, its triples are applied, all or none, and then its audit is answered. An
+/// action that is rejected as a whole, before or after its commands, ends the request even if its commands are
+/// optional.
 pub fn transaction(engine: &mut Engine, source: &[u8], request: &Request, reply: &mut Reply)
     requires proper { request_is_proper source.now request.now ≡ true }
     ensures ran { Leads StandsFor engine.old engine.new (λ w next. ((replied source.now request.now w).gateway ≡ next)

@@ -27,7 +27,7 @@ use std::io::{Read, Write};
 ///   4,294,967,295 reads.
 /// - `Write`: the output of the last line that was run was written only in part.
 /// - `NoMemory`: memory ran out at a line, which had no effect; the lines before it were run. Or memory ran out before
-///   Anything was read.
+///   anything was read.
 /// - `BadConfig`: returned if and only if the configuration is invalid. Nothing was read.
 pub fn run<R: Read, W: Write>(
     alloc: Global,

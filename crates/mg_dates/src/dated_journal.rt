@@ -65,7 +65,7 @@ impl<'a, J: Journal, C: Clock> Model for DatedJournal<'a, J, C> {
     ghost invariant = { λ d. d.text.room + length d.text.text ≡ TEXT_ROOM };
 }
 
-/// Returns whether the first of these lines is a message.
+/// Returns whether the first line is a message.
 fn is_message(lines: &[u8]) -> bool {
     lines.starts_with(b"control")
 }

@@ -47,12 +47,12 @@ module _ (some : List ℕ) where
   placed_blind : (p : Header × List ℤ) → IsBlind (frame_placed p.0 p.1)
   placed_blind p = blind (frame_placed p.0 p.1) (λ s. refl) (λ s. refl)
 
-  -- A frame for one of these terminations changes only what the mask removes.
+  -- A frame for a termination in the list changes only what the mask removes.
   one_placed : (p : Header × List ℤ) (s : TerminationMedia) → has some s.number ≡ true →
       mask (frame_placed p.0 p.1 s) ≡ mask s
   one_placed p s is_one = rw is_one refl
 
-  -- ## Lists of them
+  -- ## Lists of media without arrivals
 
   abbrev AreLike : List TerminationMedia → List TerminationMedia → Type 0
   AreLike xs ys = map mask xs ≡ map mask ys
@@ -93,7 +93,7 @@ module _ (some : List ℕ) where
   found n xs ys e = sym (found_in_map (λ s. s.number) mask n xs number_stays) ∙
       ap (find (λ s. eqb s.number n)) e ∙ found_in_map (λ s. s.number) mask n ys number_stays
 
-  -- Everything that does not depend on arrivals is equal in both media.
+  -- Everything that does not depend on arrivals is equal in the media of both gateways.
   seen : {A : Type 0} (g : TerminationMedia → A) → ((s : TerminationMedia) → g (without_arrivals s) ≡ g s) →
       (o k : Option TerminationMedia) → AreBothLike o k → option_map g o ≡ option_map g k
   seen {A} g same o k e = sym (each o) ∙ ap (option_map g) e ∙ each k
@@ -162,7 +162,7 @@ module _ (some : List ℕ) where
   one_changes n p (s ∷ xs) is_one =
       grind (arith, nat_tests, one_placed p s, one_changes n p xs is_one, eqb-true s.number n)
 
-  -- If the media of one of these terminations change in one gateway, the two gateways still agree.
+  -- If a frame is placed for a termination in the list, in only one gateway, the two gateways still agree.
   one_places : (n : ℕ) (p : Header × List ℤ) (a b : Gateway) (o : Option TerminationMedia) → has some n ≡ true →
       AgreeOutside some a b → AgreeOutside some (place n p a o) b
   one_places n p a b None is_one h = h

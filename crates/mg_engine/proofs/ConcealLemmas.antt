@@ -1,4 +1,4 @@
--- The number of frames that a tick conceals, counted by slots and by terminations.
+-- The number of missing frames that a tick conceals, counted by slots and by terminations.
 use Rattle.mg_engine.proofs.Common.{◌≡◌, ℕ, ◌+◌, ◌<◌, Bool, true, false, cond, List, length, map, get_or, take, Some, refl, sym, ap, ◌∙◌, arith, count_by, is_concealed, PlayList, Record, Gateway, EngineState, StandsFor, media_at, Registry, record_at, SlotMedia, conceals_in, ticked, is_concealing, conceals, concealed_in_tick, from_bool, sum_by_more, IsSound}
 use Rattle.mg_engine.proofs.GatewayLemmas.{has_media}
 use Rattle.mg_engine.proofs.SumLemmas.{sum_by-agree, sum_by-map}

@@ -13,7 +13,7 @@ use Rattle.mg_engine.proofs.KeyLemmas.{none_before_last, found_push, found_chang
 pub use Rattle.mg_engine.proofs.OutcomeLemmas.{Adds, Changes, Removes, add_adds, modify_changes, move_changes, subtract_removes}
 use Rattle.mg_engine.proofs.GatewayLemmas.{found_too, found_key, has_media}
 
--- ## Media of the termination that an edit is done on
+-- ## The media of the termination that an edit changes
 
 begun_is : (config : Config) (n : ℕ) → IsMediaOf config (initial_media config) silence (new_media n)
 begun_is config n =
@@ -143,7 +143,7 @@ left_with : (k : EngineState) (new : Registry) (n : ℕ) (d : Record) (a : Chang
 left_with k new n d a = a.terminations ∙
     ap (λ (m : ℕ). change (λ x. x.number) m (λ _. Some d) k.rooms.terminations) (changed_at k new n d a)
 
--- The termination has its new record.
+-- The changed termination has its new record.
 pub changed_is : (k : EngineState) (new : Registry) (n : ℕ) (d : Record) (a : Changes k.rooms new n d) →
     record_at new n ≡ Some d
 changed_is k new n d a = ap (find (λ x. eqb x.number n)) (left_with k new n d a) ∙

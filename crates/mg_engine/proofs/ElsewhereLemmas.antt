@@ -34,7 +34,7 @@ spared w next c n a b others not_a not_b out = record {
   apart = out;
 }
 
--- A termination enters a context other than c, if c exists and is not the action's context.
+-- If the context c exists and is not the action's context, a termination that enters a context does not enter c.
 elsewhere : (w : Registry) (target : Target) (place : _) (c d : ℕ) → IsSound w → IsSome (context_at w c) →
     is_number target c ≡ false → Enters w target place → d ≡ place.context → c ≢ d
 elsewhere w target place c d h there apart enters is same =

@@ -17,7 +17,7 @@ pub context_found : (k : EngineState) (w : Gateway) (n : ℕ) (r : Record) → S
     record_at k.rooms n ≡ Some r → context_of w n ≡ r.context
 context_found k w n r h found = ap (λ (x : Registry). context_in (record_at x n)) h.rooms ∙ ap context_in found
 
--- ## What a table says of two places
+-- ## Properties of every table of flows
 
 pub nobody_hears_itself : (table : List flow.RoomFlows) (p : Place) → flow.hears table p p ≡ false
 nobody_hears_itself table p = grind (arith, nat_tests)
@@ -29,7 +29,7 @@ silenced_apart table p q e = grind (arith, nat_tests)
 pub not_itself : (table : List flow.RoomFlows) (p : Place) → flow.is_silenced table p p ≡ false
 not_itself table p = grind (arith, nat_tests)
 
--- ## Flow by the places of both
+-- ## Flow between the places of two members
 
 module _ (k : EngineState) (w : Gateway) (sound : IsSound k.rooms) (all : HasMembers k.rooms k.flows)
     (h : StandsFor k w) where
@@ -78,8 +78,8 @@ module _ (k : EngineState) (w : Gateway) (sound : IsSound k.rooms) (all : HasMem
         mode_found k w talker t h s.first.found,
       ) refl
 
-  -- A test of two places agrees with a test of the members there, if it does in three cases: for a single member, for
-  -- two members of a context, and for members of different contexts, which are in different rooms.
+  -- A test of two places agrees with a test of the members there if it does so in three cases. These are a single
+  -- member, two members of a context, and members of different contexts, which are in different rooms.
   module _ (places : Place → Place → Bool) (members : ℕ → ℕ → Bool)
       (itself : (n : ℕ) (r : Record) (p : Place) → record_at k.rooms n ≡ Some r → places p p ≡ members n n)
       (together : (m n : ℕ) (t l : Record) (p q : Place) → ShareContext k.rooms m n t l p q → places p q ≡ members m n)
@@ -119,7 +119,7 @@ module _ (k : EngineState) (w : Gateway) (sound : IsSound k.rooms) (all : HasMem
       sym (flow_places talker listener t l p q from to) ∙
       λ i. flows_between k.flows (sym from.place i) (sym to.place i)
 
-  -- The table and the gateway agree on whether a member hears another, and on whether it is silenced for the other.
+  -- These lemmas show that the table and the gateway agree on who hears whom, and on who is silenced for whom.
   pub hears_places : (talker listener : ℕ) (t l : Record) (p q : Place) → IsOnPlace k.rooms talker t p →
       IsOnPlace k.rooms listener l q → flow.hears k.flows p q ≡ worlds.hears w talker listener
   hears_places = by_places (flow.hears k.flows) (worlds.hears w) (λ n r p found. nobody_hears_itself k.flows p ∙

@@ -5,7 +5,7 @@ use Rattle.mg_rooms.proofs.OrderLemmas as orders
 abbrev some : {A : Type 0} → A → Option A
 some x = Some x
 
--- ## What is found by a key
+-- ## Searches by key
 
 module _ {A : Type 0} (key : A → ℕ) where
   -- If f keeps the key, a search in the mapped list finds the mapped item.

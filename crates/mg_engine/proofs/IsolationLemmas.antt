@@ -6,7 +6,7 @@ use Rattle.mg_engine.specs.Flow.{flow, is_forward, mentions}
 pub none_hears_itself : NoneHearsItself
 none_hears_itself w n = grind (arith, nat_tests)
 
--- ## Isolated
+-- ## Isolated terminations do not hear each other
 
 not_heard : (since : List ContextEdit) (first second : List ℕ) (before : List ContextEdit) (a b : ℕ) →
     mentions first second a b ≡ true → list_all (leaves_isolated a b) since ≡ true
@@ -41,7 +41,7 @@ isolated_are_not_heard w a b h = (
       (all_leave a b h.since ∙ h.left)),
 )
 
--- ## What a packet depends on
+-- ## Packets of gateways that differ only in frames
 
 module _ (a b : Gateway) (same_rooms : a.rooms ≡ b.rooms) (same_edits : a.edits ≡ b.edits) where
   flow_same : (talker listener : ℕ) → flow a talker listener ≡ flow b talker listener
@@ -108,7 +108,7 @@ packets_depend_on_heard a b r config same_rooms edits progress same own =
     (map_agree (mix a r.number) (mix b r.number) (range_with_len 0 160)
     (λ k. mix_same a b same_rooms edits r.number k same own))
 
--- ## Unheard
+-- ## Unheard speech changes no packet
 
 module _ (t : ℕ) (frame : List ℤ) where
   number_stays : (s : TerminationMedia) → (replayed t frame s).number ≡ s.number
@@ -125,7 +125,7 @@ module _ (t : ℕ) (frame : List ℤ) where
     kept (Some s) e = ap (λ (b : Bool). (if b then record s { frame = frame } else s).frame)
         (ap (λ (k : ℕ). eqb k t) (found_key (λ x. x.number) n w.media s e) ∙ apart)
 
-  -- If the speech of t does not flow to a listener, a talker whose speech does flow to it is not t.
+  -- If the speech of t does not flow to a listener, but the speech of k does, then k is not t.
   not_it : (w : Gateway) (listener k : ℕ) → flow w t listener ≡ false → flow w k listener ≡ true → eqb k t ≡ false
   not_it w listener k none some =
       ne_eqb k t (λ same. true≢false (sym some ∙ ap (λ (x : ℕ). flow w x listener) same ∙ none))

@@ -1,4 +1,4 @@
--- The rooms that rows are joined to, when a termination enters, changes or leaves.
+-- The rooms that rows are joined to, after a termination enters, changes or leaves.
 use Rattle.mg_engine.proofs.Common.{◌≡◌, ◌≢◌, ℕ, eqb, Bool, true, false, cond, List, Option, Some, None, refl, sym, ap, ◌∙◌, eqb-true, eq-eqb, ne_eqb, IsSound, Limits, Record, Registry, record_at, Place, IsOnPlace, AreJoined, SetsRow, room_for, start_of, room_of_row}
 use Rattle.mg_engine.proofs.MemberLemmas.{SameOthers, no_record, another, unequal}
 use Rattle.mg_engine.proofs.PlaceLemmas.{one_record, one_place}

@@ -6,7 +6,7 @@ use Rattle.mg_engine.proofs.MemberLemmas.{unequal}
 use Rattle.mg_engine.proofs.PlaceLemmas.{seated, place, at, on_place, in_one_context, hears_apart, no_hearing}
 use Rattle.mg_engine.proofs.SeatSums.{sum-seats_of, seat_sums}
 
--- ## Who sits on the seats of a mask
+-- ## The members in the seats of a mask
 
 -- The test holds for the places in the room whose seats are in the mask, and for no place in another room.
 module _ (p : Place) (mask : ℕ) (test : Place → Bool)
@@ -20,7 +20,7 @@ module _ (p : Place) (mask : ℕ) (test : Place → Bool)
   pub seated_is : (q : Place) → is_seated_in p.room mask (Some q) ≡ test q
   seated_is q = seated_by q (eqb q.room p.room) refl
 
--- ## What a listener hears
+-- ## The speech that a listener hears
 
 pub flows_apart : (table : List RoomFlows) (p q : Place) → eqb p.room q.room ≡ false → flows table p q ≡ false
 flows_apart table p q e = no_hearing table p q (hears_apart table p q e)
@@ -38,7 +38,7 @@ module _ (k : EngineState) (l : Record) (p : Place) (mask : ℕ) (on : place_of 
       (pos 0)) on
       ∙ ap (λ (b : Bool). cond b (sample_at k.sums.frames t.slot i) (pos 0)) (flows_by (place_of k.rooms t)))
 
-  -- The listener's payload is the payload for these members.
+  -- The listener's payload is the payload for the members whose seats are in the mask.
   pub payload_is_on : (law : Law) → map (byte_of law)
       (map (λ i. nearest_sample (heard_now k l i)) (range_with_len 0 160)) ≡ payload_on k p.room mask law
   payload_is_on law = ap (λ (xs : List ℤ). map (byte_of law) xs)

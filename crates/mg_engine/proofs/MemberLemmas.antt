@@ -35,7 +35,7 @@ no_record r h = cc h
 pub another : (w : Registry) (m n : ℕ) (r : Record) → record_at w m ≡ Some r → record_at w n ≡ None → m ≢ n
 another w m n r found none same = no_record r (sym found ∙ ap (record_at w) same ∙ none)
 
--- ## Others than one
+-- ## All members except n
 
 -- All terminations except n have the same records and places in both registries.
 abbrev pub SameOthers : Registry → Registry → ℕ → Type 0
@@ -107,7 +107,7 @@ hears_carry old new n table es same h talker listener t l p q one two s = h talk
   apart = s.apart;
 })
 
--- If n does not exist, the members of the table are all members other than n.
+-- If n does not exist, a table that contains all members contains all members other than n, and no others.
 pub unknown : (w : Registry) (n : ℕ) (table : List RoomFlows) → record_at w n ≡ None → HasMembers w table →
     HasOthers w n table
 unknown w n table none h = record {
@@ -119,7 +119,7 @@ pub hears_some : (w : Registry) (n : ℕ) (table : List RoomFlows) (es : List Co
     HearsOthers w n table es
 hears_some w n table es h talker listener t l p q one two s = h talker listener t l p q s
 
--- If n does not exist, all members other than n are all members.
+-- If n does not exist, a table that contains all members other than n contains all members.
 pub members_all : (w : Registry) (n : ℕ) (table : List RoomFlows) → record_at w n ≡ None → HasOthers w n table →
     HasMembers w table
 members_all w n table none h = record {
@@ -132,7 +132,7 @@ pub hears_all : (w : Registry) (n : ℕ) (table : List RoomFlows) (es : List Con
 hears_all w n table es none h talker listener t l p q s = h talker listener t l p q
     (another w talker n t s.first.found none) (another w listener n l s.second.found none) s
 
--- ## One place of a table
+-- ## A table in which one place changes
 
 module _ (old new : List RoomFlows) (p : Place) (held does_talk does_listen : Bool)
     (set : SetsPlace old new p held does_talk does_listen) where
@@ -179,7 +179,7 @@ module _ (w : Registry) (n : ℕ) (r : Record) (p : Place) (old new : List RoomF
     nobody = λ q held. set_nobody q held (is_same_place q p) refl;
   }
 
--- ## One leaves
+-- ## A member leaves
 
 module _ (w : Registry) (n : ℕ) (r : Record) (p : Place) (old new : List RoomFlows) (sound : IsSound w)
     (on : IsOnPlace w n r p) (left : Leaves old new p) where
@@ -204,7 +204,7 @@ module _ (w : Registry) (n : ℕ) (r : Record) (p : Place) (old new : List RoomF
       let second = apart_places w listener n l r b p sound s.second on two in
       rw (left.hears a b, first, second) (h talker listener t l a b s)
 
--- ## One enters
+-- ## A member enters
 
 pub free_place : (w : Registry) (n : ℕ) (r : Record) (p : Place) (table : List RoomFlows) → IsSound w →
     HasOthers w n table → IsOnPlace w n r p → IsFalse (holds table p)
@@ -247,7 +247,7 @@ module _ (w : Registry) (n : ℕ) (r : Record) (p : Place) (old new : List RoomF
       rw (represents.hears a b, first, second)
       (pair es k talker listener t l a b s (eqb talker n) (eqb listener n) refl refl)
 
--- ## One has another mode
+-- ## A member's mode changes
 
 module _ (old new : Registry) (n : ℕ) (was r : Record) (p : Place) (before after : List RoomFlows) (sound : IsSound new)
     (same : SameOthers old new n) (there : IsOnPlace old n was p) (on : IsOnPlace new n r p)
@@ -276,7 +276,7 @@ module _ (old new : Registry) (n : ℕ) (was r : Record) (p : Place) (before aft
       taken.hears a b ∙ h talker listener x y a b
       (record { first = first; second = second; same = from ∙ s.same ∙ sym to; apart = s.apart })
 
--- ## Nobody is there
+-- ## A new gateway has no members
 
 none_found : (w : Registry) (limits : Limits) (n : ℕ) (r : Record) → w ≡ start_of limits → record_at w n ≡ Some r → ⊥
 none_found w limits n r e found = no_record r (sym found ∙ ap (λ (x : Registry). record_at x n) e)

@@ -1,4 +1,4 @@
--- The total of a room, without the listener and the talkers silenced for it, is what the listener hears.
+-- A listener hears the total of its room, without its own row and the rows of the talkers that are silenced for it.
 use Rattle.mg_engine.proofs.Common.{◌≡◌, ◌≢◌, ℕ, ◌<◌, ◌&&◌, not, eqb, Bool, true, false, cond, ℤ, pos, ◌+ℤ◌, List, [], ◌∷◌, length, map, get_or, Option, Some, None, refl, sym, ap, ◌∙◌, arith, All, range_with_len, eqb-true, eq-eqb, get_or-map, length-map, sum_by-cons, seat_limit, has_seat, Record, record_at, Place, sibling_place, SumsState, total_of, nearest_sample, sum_of-cons, sum_of-same, place_of, IsOnPlace, EngineState, Inside, IsWholeEngine, view, talks, listens, slot_at, sample_at, heard_now, silenced_now, map_agree, IsTrue, AllPairs, count_by, All-cons, All-map, filter_passes, All-weaker, sits_among, is_seated_in, ints, length-range_with_len, get_or-range_with_len, sum_of-map, sum_of-nil, sum_of-plus, is_silenced_between, part_now, and-false, and_parts, count-found, sum_of-ones, sum_of-agree, true≢false, sum_of}
 use Rattle.std.proofs.lemmas.List.Kept.{AllPairs-cons, AllPairs-filter}
 use Rattle.mg_topology.specs.Mask.{seats_of}
@@ -11,9 +11,9 @@ use Rattle.mg_engine.proofs.PlaceLemmas.{no_hearing, one_record, one_place, on_p
 use Rattle.mg_engine.proofs.RowSums.{joined_is, total_by_terminations}
 use Rattle.mg_engine.proofs.SeatSums.{one_passes}
 
--- ## One part of a total
+-- ## The part of one termination in a total
 
--- A part of the total is the listener's own, that of a silenced talker, or that of a heard talker.
+-- Each part of the total belongs to the listener, to a silenced talker, or to a heard talker.
 abbrev Splits : ℤ → Bool → Bool → Bool → Bool → Type 0
 Splits z joined own silenced heard =
     cond joined z (pos 0) ≡ (cond own z (pos 0) +ℤ cond silenced z (pos 0)) +ℤ cond heard z (pos 0)
@@ -97,7 +97,7 @@ module _ (inside : Inside) (l : Record) (p : Place) (mask : ℕ) (whole : IsWhol
       (λ x e. silenced_apart k.flows x p e) q
   silenced_is None = refl
 
-  -- ## Which rows are left out
+  -- ## The rows that are left out
 
   -- A member whose seat is silenced talks.
   talks_there : (seat : ℕ) (n : ℕ) (r : Record) → IsTrue (has_seat mask seat) →
@@ -153,7 +153,7 @@ module _ (inside : Inside) (l : Record) (p : Place) (mask : ℕ) (whole : IsWhol
   pub left_out : AreOfRoom k.sums.rooms p.room (left_out_by base minus)
   left_out = out_by (talks l.mode) refl
 
-  -- ## How many they are
+  -- ## The number of silenced talkers
 
   pub how_many : length minus ≡ silenced_now k l
   how_many = length-map (seats_of mask) row_on ∙ same_number (length (seats_of mask)) (silenced_now k l)
@@ -165,7 +165,7 @@ module _ (inside : Inside) (l : Record) (p : Place) (mask : ℕ) (whole : IsWhol
       ∙ counted_ones (λ (t : Record). is_silenced_between k.flows (place_of k.rooms t) (place_of k.rooms l))
       k.rooms.terminations)
 
-  -- ## What is left
+  -- ## The sum of the rows that are heard
 
   module _ (i : ℕ) where
     abbrev sample_of : Record → ℤ
@@ -216,7 +216,7 @@ module _ (inside : Inside) (l : Record) (p : Place) (mask : ℕ) (whole : IsWhol
         rw (joins, at.place, on.place, silenced_is (Some q))
         (split_at t q at (eqb t.number l.number) refl (eqb q.room p.room) refl)
 
-    -- ## The listener itself
+    -- ## The listener's own row
 
     own_sum : sum_of own_part k.rooms.terminations ≡ cond (talks l.mode) (sample_of l) (pos 0)
     own_sum =
@@ -263,7 +263,7 @@ module _ (inside : Inside) (l : Record) (p : Place) (mask : ℕ) (whole : IsWhol
   same_rest : (a b c d : ℤ) → a ≡ b +ℤ c → a ≡ b +ℤ d → c ≡ d
   same_rest a b c d e f = omega (arith, ints, e, f)
 
-  -- The total minus the rows that are left out is what the listener hears.
+  -- A mix without the rows that are left out is what the listener hears, saturated.
   pub mix_is : IsLeftAndHeard k.sums p.room (left_out_by base minus)
       → mix_of k.sums p.room (left_out_by base minus) ≡
       map (λ i. nearest_sample (heard_now k l i)) (range_with_len 0 160)

@@ -2,7 +2,7 @@
 use Rattle.mg_engine.proofs.Common.{◌≡◌, ℕ, zero, suc, ◌+◌, ◌<◌, ◌≤◌, ◌&&◌, eqb, Bool, true, false, cond, ℤ, pos, ◌+ℤ◌, List, [], ◌∷◌, inl, inr, get_or, refl, sym, ap, ◌∙◌, arith, range_with_len, cases_eq, eq-eqb, seat_limit, has_seat, sum_of-cons, sum_of-same, count_by, nat_tests, ints, sum_of-filter, sum_of-nil, sum_of-none, sum_of-plus, All, sum_of-agree, count-cons, sum_of}
 use Rattle.mg_topology.specs.Mask.{seats_of}
 
--- ## Sums of sums
+-- ## Sums of sums in either order
 
 swapped : {A : Type 0} (f : A → ℕ → ℤ) (rs : List A) (ks : List ℕ) →
     sum_of (λ k. sum_of (λ t. f t k) rs) ks ≡ sum_of (λ t. sum_of (f t) ks) rs
@@ -18,7 +18,7 @@ pub sum-seats_of : (mask : ℕ) (f : ℕ → ℤ) →
 unfolding seats_of
 sum-seats_of mask f = sum_of-filter (has_seat mask) f (range_with_len 0 seat_limit)
 
--- ## One seat among those of a range
+-- ## Sums in which only one seat counts
 
 abbrev alone : (ℕ → ℤ) → ℕ → ℕ → ℤ
 alone h s k = cond (eqb s k) (h k) (pos 0)
@@ -53,7 +53,7 @@ part_among : (b : Bool) (h : ℕ → ℤ) (s n : ℕ) → s < n →
 part_among true h s n lt = one_among h s 0 n (omega arith) (omega (arith, lt))
 part_among false h s n lt = sum_of-none (λ (k : ℕ). pos 0) (range_with_len 0 n) (λ k. refl)
 
--- ## One that passes a test
+-- ## Sums in which at most one item passes a test
 
 module _ {A : Type 0} (p : A → Bool) (z : ℤ) where
   abbrev at : A → ℤ
@@ -71,7 +71,7 @@ module _ {A : Type 0} (p : A → Bool) (z : ℤ) where
   by_count rs zero e few none = none refl ∙ sym (none_pass rs e)
   by_count rs (suc n) e few none = sym (one_passes rs (e ∙ omega (arith, few)))
 
--- ## Seats and those who are on them
+-- ## Seats and the items in them
 
 -- The sum over n seats is the sum over the items in these seats. Each item has a seat below n, no two items have the
 -- same seat, and a seat without an item adds 0.

@@ -37,7 +37,7 @@ one_of : {A B : Type 0} (f : A → Option B) (x : A) (o : Option B) → f x ≡ 
 one_of f x (Some y) e = rw e refl
 one_of f x None e = rw e refl
 
--- Filtering and mapping one more item appends its result, if it has one.
+-- Mapping one more item with f appends the item's result, or nothing if f returns no result.
 pub one_more : {A B : Type 0} (f : A → Option B) (xs : List A) (k : ℕ) (d : A) → k < length xs →
     filter_map f (take (k + 1) xs) ≡ filter_map f (take k xs) ++ option_to_list (f (get_or xs k d))
 one_more f xs k d lt =

@@ -1,4 +1,4 @@
--- An engine sends the packets that the gateways it represents send in a tick.
+-- In each tick, an engine sends the same packets as the gateways that it represents.
 use Rattle.mg_engine.proofs.Common.{◌≡◌, ℕ, ◌+◌, ◌-◌, ◌*◌, ◌%◌, ◌^◌, ◌≤◌, ◌++◌, not, Bool, cond, List, [], ◌∷◌, ℤ, pos, map, get_or, Option, Some, None, refl, sym, ap, ◌∙◌, arith, filter_map, range_with_len, option_map, byte_of, header_bytes, plain, Chosen, Record, slot_port, record_at, nearest_sample, Config, Datagram, Gateway, TerminationMedia, media_of, frame_in, played_sample, is_loopback, type_of, sent_to, HasMembers, sample_at, heard_now, mixed_now, packet_now, EngineState, StandsFor, IsMediaOf, media_at, map_agree, cons_option, Registry, part_of_mix, heard, mix, mixed, SlotMedia, sum_of-map, flows_now, part_now, mix_now, packets_now, packet_to, header, header_of, packet, packet_of, packets, HaveTicked, All, All-head, All-tail, IsSound, sum_of-agree, sum_of}
 use Rattle.mg_engine.proofs.FlowLemmas.{flow_is, mode_found}
 use Rattle.mg_engine.proofs.GatewayLemmas.{has_media, found_key}

@@ -1,4 +1,4 @@
--- The packets whose payloads are shared keep their payloads.
+-- Packets with shared payloads keep their payloads.
 use Rattle.mg_engine.proofs.Common.{◌≡◌, ℕ, zero, suc, ◌<◌, eqb, Bool, true, false, cond, List, [], ◌∷◌, ◌++◌, length, replicate, refl, sym, ap, subst, ◌∙◌, arith, nat_lt, All, eqb-true, get_or-set_same, get_or-set_other, Datagram, Share, EngineState, with_mixes, AreShared, context_limit, member_limit, length_push, get_or-append_seam, All-nil, All-weaker, All-push, IsShared, one_more, packet_at, payload_of, payload_on, shares_in, with_share, get_or_append_left}
 use Rattle.mg_engine.specs.aids.Datagram.{blank}
 use Rattle.mg_engine.proofs.MemberLemmas.{unequal}
@@ -57,7 +57,7 @@ module _ (k : EngineState) (outbox : List Datagram) (sent : Datagram) (work at :
   pub now_shared : AreShared after (outbox ++ sent ∷ [])
   now_shared room = shared_at room (eqb room at) refl
 
--- ## Nothing is lent
+-- ## Rooms without shares
 
 none_in : (n room : ℕ) → shares_in (replicate n []) room ≡ []
 none_in zero room = refl

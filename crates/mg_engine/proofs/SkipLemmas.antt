@@ -86,7 +86,7 @@ more_passed false n m = λ i. record m { timestamp = more_time n m.timestamp i; 
 ticked_once : (b : Bool) (m : SlotMedia) → IsIdleMedia m → slot_ticked b m ≡ slot_passed b 1 m
 ticked_once b m idle = ap (slot_ended b) (idle_played m idle) ∙ one_passed b m
 
--- For a slot with an idle play list, n + 1 ticks in one step are n + 1 single ticks.
+-- For a slot with an idle play list, n + 1 ticks in one step have the same effect as n + 1 single ticks.
 pub passed_is : (b : Bool) (n : ℕ) (m : SlotMedia) → IsTrue (is_idle m.play.phase) →
     iterate (slot_ticked b) (suc n) m ≡ slot_passed b (suc n) m
 passed_is b zero m idle = ticked_once b m idle
@@ -144,7 +144,7 @@ ticks_found (suc n) w k = ticks_found n (after_tick w) k ∙
     ap (option_map (iterate (ticked_media w.rooms) n)) (tick_found w k) ∙
     twice (iterate (ticked_media w.rooms) n) (ticked_media w.rooms) (media_of w k)
 
--- ## What is stored after ticks at once
+-- ## The stored media after several ticks in one step
 
 module _ (config : Config) (w : Registry) (b : Bool) (row : List ℤ) (silent : row ≡ silence) where
   one_stands : (m : SlotMedia) (s : TerminationMedia) → IsIdleMedia m → sends_at w s.number ≡ b →
@@ -178,7 +178,7 @@ passed_stands k w count new sound some idle passed h = stands_mapped k w (after_
     (many_stand k.config w.rooms b (get_or k.sums.frames r.slot []) i.silent count m t i.idle
     (sym (same_sender k w n t.number r sound h found same)) is)) h
 
--- ## Nothing is concealed
+-- ## Idle play lists conceal no frames
 
 -- The play list of each termination is idle.
 abbrev IsIdleGateway : Gateway → Type 0
@@ -221,7 +221,7 @@ pub passed_conceals : (k : EngineState) (w : Gateway) (count : ℕ) → IsIdleEn
     concealed_in_ticks count w ≡ 0
 passed_conceals k w count idle h = none_concealed count w (idle_gateway k w idle h)
 
--- ## One tick more
+-- ## One more tick
 
 last_concealed : (n : ℕ) (w : Gateway) →
     concealed_in_ticks (suc n) w ≡ concealed_in_ticks n w + concealed_in_tick (after_ticks n w)

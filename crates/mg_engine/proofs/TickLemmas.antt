@@ -9,7 +9,7 @@ with_media k kept = record k { media = kept }
 abbrev pub with_frames : EngineState → List SlotMedia → SumsState → EngineState
 with_frames k kept frames = record k { media = kept; sums = frames }
 
--- ## The frames are played
+-- ## Playing frames
 
 pub played_is : (config : Config) (m : SlotMedia) (row : List ℤ) (s : TerminationMedia) → IsMediaOf config m row s →
     IsMediaOf config (slot_played m) (frame_played m) (played s)
@@ -61,7 +61,7 @@ played_stands k w new kept all h = stands_mapped k w (all_played w) new kept pla
     (λ n r t found same is. let p = all n r found in rw (p.ticked, p.frame)
     (played_is k.config (media_at k.media r.slot) (get_or k.sums.frames r.slot []) t is)) h
 
--- ## Packets are sent
+-- ## Sending packets
 
 pub ended_is : (config : Config) (b : Bool) (m : SlotMedia) (row : List ℤ) (s : TerminationMedia) →
     IsMediaOf config m row s → IsMediaOf config (slot_ended b m) row (sent b s)

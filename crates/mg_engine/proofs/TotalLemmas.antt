@@ -1,4 +1,4 @@
--- The stored totals are those of the gateway.
+-- The stored totals equal the gateway's totals.
 use Rattle.mg_engine.proofs.Common.{◌≡◌, ℕ, ◌+◌, ◌<◌, ◌&&◌, eqb, Bool, true, false, cond, ℤ, pos, get_or, Option, Some, None, refl, sym, ap, ◌∙◌, nat_lt, arith, is_some, range_with_len, option_map, eqb-true, eq-eqb, ne_eqb, same_Some, Context, Record, talks, IsSound, record_at, context_at, members_at, Place, total_of, Gateway, IsOnPlace, EngineState, StandsFor, sample_at, count_by, lt-ltb, last_termination, Registry, IsMember, part_of_total, total, total_at, find-none, All, Inside, IsWholeEngine, list_any_at, sum_of-agree, view, counted_any, false_from_ne_true, sum_of}
 use Rattle.mg_engine.proofs.FlowLemmas.{mode_found}
 use Rattle.mg_engine.proofs.MemberLemmas.{unequal}
@@ -61,7 +61,7 @@ module _ (w : Registry) (c : ℕ) (f : ℕ → ℤ) (sound : IsSound w) where
   pub sum_of_members : sum_of f (members_at w c) ≡ sum_of context_part w.terminations
   sum_of_members = sym by_members ∙ by_terminations
 
--- ## A total
+-- ## The total of a context
 
 talking_part : (t e : Bool) (z : ℤ) → cond (t && e) z (pos 0) ≡ cond e (cond t z (pos 0)) (pos 0)
 talking_part true e z = refl
@@ -105,7 +105,7 @@ module _ (inside : Inside) (w : Gateway) (c i : ℕ) (x : Context) (whole : IsWh
       ∙ sym (sum_of_members k.rooms c (part_of_total w i) whole.sound)
       ∙ ap (λ (y : Registry). sum_of (part_of_total w i) (members_at y c)) (sym h.rooms)
 
--- ## What is asked for
+-- ## A total that a caller asks for
 
 abbrev some : ℤ → Option ℤ
 some z = Some z

@@ -147,7 +147,7 @@ none_overlaps (a ∷ ys) y none apart (suc i, x, lt, is, overlap) =
     none_overlaps ys y (λ some. let (j, z, less, at, o) = some in none (suc j, z, omega (arith, less), at, o)) apart
     (i, x, omega (arith, lt), is, overlap)
 
--- ## What triples change
+-- ## The effect of triples
 
 pub has_still : (w : Registry) (old new : List RoomFlows) → KeepsPlaces old new → HasMembers w old → HasMembers w new
 has_still w old new keeps h = record {
@@ -233,7 +233,7 @@ module _ (w : Registry) (c room : ℕ) (old new : List RoomFlows) (xs : List Top
   pub hears_triples : Hears w old es → Hears w new (with_triples (members_at w c) xs es)
   hears_triples h talker listener t l p q s = triples_case h talker listener t l p q s (eqb t.context c) refl
 
--- ## What an engine answers
+-- ## The results of applying triples
 
 pub refused_there : (k : EngineState) (w : Gateway) (target : Target) (xs : List TopologyTriple) (e : ErrorNumber) →
     StandsFor k w → existing_context k.rooms target ≡ Err e → apply_triples w target xs ≡ Err e

@@ -15,9 +15,10 @@ use Rattle.mg_engine.specs.Outcome.{add, modify, move_to, subtract, apply_triple
 use Rattle.mg_engine.proofs.ElsewhereLemmas.{Spares, add_spares, modify_spares, move_spares, subtract_spares}
 use Rattle.mg_engine.proofs.OrderLemmas.{done_gives, other_media}
 
--- ## A context of which each record and each stream is as it was
+-- ## A context whose records and media are unchanged
 
--- Who hears whom and whose speech flows to whom, given the records of the two and the last word on them.
+-- These definitions say who hears whom, and whose speech flows to whom. They use only the records of the two
+-- terminations and the last word on the pair.
 abbrev share : Option Record → Option Record → ℕ → ℕ → Bool
 share r q a b = is_some r && (is_some q && (eqb (context_in r) (context_in q) && not (eqb a b)))
 

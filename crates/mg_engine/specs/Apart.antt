@@ -1,4 +1,4 @@
--- Packets to listeners that do not hear certain terminations do not depend on what those terminations receive.
+-- If a listener does not hear certain terminations, the packets to it do not depend on what those terminations receive.
 use Rattle.std.specs.Prelude.{◌≡◌, ℕ, ◌&&◌, true, false, List, map, Some, if◌then◌else◌}
 use Rattle.mg_words.specs.declared.stats.Stats.{Stats}
 use Rattle.mg_playout.specs.Playout.{first_list}
@@ -26,20 +26,20 @@ without_arrivals s =
 abbrev pub unless_among : List ℕ → TerminationMedia → TerminationMedia
 unless_among some s = if has some s.number then without_arrivals s else s
 
--- Two gateways agree outside some terminations if they differ only in what those terminations
--- received: in their play lists, current frames, and counters of received packets.
+-- Two gateways agree outside some terminations if they differ only in what those terminations received: their play
+-- lists, current frames, and counters of received packets.
 pub record AgreeOutside (some : List ℕ) (a b : Gateway) : Type 0 where
   pub config : a.config ≡ b.config
   pub rooms : a.rooms ≡ b.rooms
   pub edits : a.edits ≡ b.edits
   pub media : map (unless_among some) a.media ≡ map (unless_among some) b.media
 
--- The port belongs to one of these terminations.
+-- The port belongs to a termination in the list.
 abbrev pub IsPortAmong : List ℕ → Gateway → ℕ → Type 0
 IsPortAmong some w port =
     (r : Record) × (at_port w.rooms port ≡ Some r) × (has some r.number ≡ true)
 
--- ## What agreement implies for packets
+-- ## Packets of gateways that agree
 
 -- The listener hears none of these terminations, and is not one of them in Loopback.
 pub record HearsNone (some : List ℕ) (w : Gateway) (listener : ℕ) : Type 0 where

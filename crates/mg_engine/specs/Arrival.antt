@@ -27,7 +27,7 @@ use Rattle.mg_engine.specs.Tick.{type_of}
 abbrev pub Arrived : Type 0
 Arrived = Result (Header × List ℤ) DropCause
 
--- The frame of a packet, if its payload is one frame in this law.
+-- The frame of a packet, or the cause of the drop. The payload must be one frame in this law.
 abbrev pub decoded : Law → Header × List ℕ → Arrived
 decoded law p =
     if not (p.0.payload_type == type_of law) then Err causes.PayloadType
@@ -37,17 +37,17 @@ abbrev pub frame_by_law : Law → Reading → Arrived
 frame_by_law law (Ok p) = decoded law p
 frame_by_law law (Err fault) = Err (causes.Rtp fault)
 
--- Whether a packet comes from an address other than the one in the termination's Remote.
+-- Whether a packet comes from an address that differs from the address in the termination's Remote.
 abbrev pub is_stray_source : Option Chosen → List ℕ → Bool
 is_stray_source remote source = option_map_or (λ to. not (bytes_eq to.address source)) remote false
 
--- The law of the payloads that a termination accepts from a source.
+-- The law of the payloads that a termination accepts from a source, or the cause of the drop.
 abbrev pub law_for : Record → List ℕ → Result Law DropCause
 law_for r source =
     if is_stray_source r.remote source then Err causes.Stray
     else option_map_or (λ local. Ok local.law) r.local (Err causes.NoLocal)
 
--- The frame that a termination gets from a datagram.
+-- The frame that a termination gets from a datagram, or the cause of the drop.
 abbrev pub arrived : Record → List ℕ → Reading → Arrived
 arrived r source reading = do
   law ← law_for r source

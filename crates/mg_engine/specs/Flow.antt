@@ -1,5 +1,5 @@
--- Who hears whom, according to the modes and the history of edits (RFC 3525, sections 7.1.7 and 7.1.18). That a
--- newcomer and each member hear each other is this project's own rule.
+-- Who hears whom, according to the modes and the history of edits (RFC 3525, sections 7.1.7 and 7.1.18). The rule that
+-- a newcomer and every member hear each other is this project's own.
 use Rattle.std.specs.Prelude.{ℕ, ◌==◌, ◌&&◌, ◌||◌, not, Bool, true, List, [], ◌∷◌, is_some}
 use Rattle.std.specs.Prelude.{if◌then◌else◌}
 use Rattle.std.specs.List.{list_any}
@@ -32,7 +32,7 @@ may_hear (Apply first second association ∷ es) talker listener =
     then permits association (is_forward first second talker listener)
     else may_hear es talker listener
 
--- Whether these are two different terminations in the same context.
+-- Whether the two numbers name different terminations in the same context.
 abbrev pub share_context : Gateway → ℕ → ℕ → Bool
 share_context w a b =
     is_some (record_at w.rooms a)
@@ -50,9 +50,9 @@ is_silenced w talker listener =
     share_context w talker listener
     && (talks (mode_of w talker) && not (may_hear w.edits talker listener))
 
--- Whether the talker's speech flows to the listener: they are different members of the same context, the talker talks,
--- the listener listens, and the last word allows it. A number that doesn't name a termination has no flow, because it
--- neither talks nor listens.
+-- Whether the talker's speech flows to the listener. They must be different members of the same context, the talker
+-- must talk, the listener must listen, and the last word must allow it. A number that doesn't name a termination has no
+-- flow, because it neither talks nor listens.
 abbrev pub flow : Gateway → ℕ → ℕ → Bool
 flow w talker listener =
     (context_of w talker == context_of w listener)

@@ -13,8 +13,8 @@ use Rattle.mg_words.specs.declared.stats.Stats.{Stats}
 use Rattle.mg_words.specs.Stats.{no_packets}
 use Rattle.mg_sums.specs.Samples.{silence}
 
--- The media of one termination: its play list, the frame that this tick plays (160 samples), its counters, the number
--- of its ticks, the number of packets that it has sent, and whether its last tick sent a packet.
+-- The media of one termination: its play list, the frame that this tick plays (160 samples), and its counters. The
+-- other fields count its ticks and the packets that it has sent, and say whether its last tick sent a packet.
 pub record TerminationMedia : Type 0 where
   pub number : ℕ
   pub play : PlayList
@@ -31,8 +31,8 @@ pub data ContextEdit : Type 0 where
   Leave : (member : ℕ) → ContextEdit
   Apply : (first second : List ℕ) → (association : Association) → ContextEdit
 
--- The state of a gateway: its configuration, its terminations and contexts, the media of each termination in order of
--- number, and the edits of all contexts, newest first.
+-- The state of a gateway: its configuration, its terminations and contexts, and the media of each termination in order
+-- of number. It also has the edits of all contexts, newest first.
 pub record Gateway : Type 0 where
   pub config : Config
   pub rooms : rooms.Registry
@@ -65,11 +65,11 @@ new_media n = record {
 abbrev pub media_of : Gateway → ℕ → Option TerminationMedia
 media_of w n = find (λ s. s.number == n) w.media
 
--- The counters of a termination, if it exists.
+-- The counters of a termination, or `None` if it does not exist.
 abbrev pub stats_of : Gateway → ℕ → Option Stats
 stats_of w n = option_map (λ s. s.stats) (media_of w n)
 
--- ## Lookups by any number: one that isn't a termination's is Inactive, in context 0, and silent
+-- ## Lookups by any number: a number without a termination is Inactive, in context 0, and silent
 
 abbrev pub mode_of : Gateway → ℕ → Mode
 mode_of w n = option_map_or (λ r. r.mode) (rooms.record_at w.rooms n) Inactive

@@ -37,8 +37,7 @@ OwnSpeechChangesNoPacket =
 
 -- ## An isolated participant is not heard
 
--- Whether an edit keeps two terminations isolated. It does not if one of them enters a context or a triple mentions the
--- two.
+-- Whether an edit keeps two terminations isolated: neither of them enters a context, and no triple mentions the two.
 abbrev pub leaves_isolated : ℕ → ℕ → ContextEdit → Bool
 leaves_isolated a b (Enter n) = not (a == n || b == n)
 leaves_isolated a b (Leave n) = true
@@ -67,8 +66,8 @@ abbrev pub progress_of : TerminationMedia → ℕ × (ℕ × (ℕ × Bool))
 progress_of s = (s.number, (s.ticks, (s.packets, s.sent_last)))
 
 -- A packet depends only on the configuration, the terminations and contexts, all edits, the progress of the listener's
--- packets, and certain frames: those of the talkers whose speech flows to the listener or, in Loopback, the listener's
--- own frame.
+-- packets, and certain frames. These are the frames of the talkers whose speech flows to the listener or, in Loopback,
+-- the listener's own frame.
 abbrev pub PacketsDependOnHeard : Type 0
 PacketsDependOnHeard =
     (a b : Gateway) (r : Record) → a.config ≡ b.config → a.rooms ≡ b.rooms → a.edits ≡ b.edits
@@ -77,15 +76,15 @@ PacketsDependOnHeard =
     → (hears_itself a r.number ≡ true → frame_of a r.number ≡ frame_of b r.number)
     → packet_of a r ≡ packet_of b r
 
--- Whatever a talker says, a listener to which its speech does not flow is sent the same packet, byte for byte. In
--- Loopback a termination is its own listener.
+-- If a talker's speech does not flow to a listener, the listener is sent the same packet, byte for byte, whatever the
+-- talker says. In Loopback a termination is its own listener.
 abbrev pub UnheardChangesNoPacket : Type 0
 UnheardChangesNoPacket =
     (w : Gateway) (talker : ℕ) (frame : List ℤ) (r : Record) → flow w talker r.number ≡ false
     → ((r.number == talker) && hears_itself w r.number) ≡ false
     → packet_of (with_frame w talker frame) r ≡ packet_of w r
 
--- ## What a packet carries
+-- ## The payload of a packet
 
 -- After the 12 bytes of the header, a packet contains the encoding of each sample of the listener's mix.
 abbrev pub PayloadsAreMixes : Type 0

@@ -23,7 +23,7 @@ part_of_total w i n = if talks (mode_of w n) then played_sample w n i else pos 0
 abbrev pub total : Gateway → ℕ → ℕ → ℤ
 total w c i = sum_of (part_of_total w i) (members_at w.rooms c)
 
--- The sum of sample i, if the context exists and i is below 160.
+-- The sum of sample i over all talkers of a context, or `None` if the context does not exist or i is not below 160.
 abbrev pub total_at : Gateway → ℕ → ℕ → Option ℤ
 total_at w c i = if is_some (context_at w.rooms c) && nat_lt i 160 then Some (total w c i) else None
 

@@ -26,7 +26,7 @@ use Rattle.mg_engine.specs.Mix.{mixed}
 
 -- ## Frames
 
--- The media after the play list advances. The frame that it plays is the frame of this tick.
+-- The media after the play list advances. The frame that the play list plays is the frame of this tick.
 abbrev pub played : TerminationMedia → TerminationMedia
 played s =
     let after = play_lists.ticked s.play in
@@ -52,7 +52,7 @@ sends Inactive = false
 sends ReceiveOnly = false
 sends _ = true
 
--- The destination of a termination's packets, if the termination sends.
+-- The destination of a termination's packets, or `None` if the termination does not send.
 abbrev pub sent_to : Record → Option Chosen
 sent_to r = if sends r.mode then r.remote else None
 
@@ -79,7 +79,7 @@ packet w r to s = record {
   bytes = header_bytes plain (header_of w to s) ++ map (byte_of to.law) (mixed w r.number);
 }
 
--- The packet of a termination, if the termination sends.
+-- The packet of a termination, or `None` if the termination does not send.
 abbrev pub packet_of : Gateway → Record → Option Datagram
 packet_of w r = do
   to ← sent_to r

@@ -40,7 +40,7 @@ abbrev pub IsElsewhere : Gateway → ℕ → Target → ℕ → Type 0
 IsElsewhere w c target n = (is_number target c ≡ false) × (is_member w c n ≡ false)
 
 -- The edit does not concern the context c. An Add doesn't name a termination, and triples name members of the action's
--- context, so only the action's context matters for these two.
+-- context. So for an Add and for triples, only the action's context matters.
 abbrev pub IsEditElsewhere : Gateway → ℕ → Edit → Type 0
 IsEditElsewhere w c (Add target settings) = is_number target c ≡ false
 IsEditElsewhere w c (Modify target n settings) = IsElsewhere w c target n

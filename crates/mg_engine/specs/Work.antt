@@ -8,8 +8,8 @@ use Rattle.mg_engine.specs.Flow.{is_silenced}
 use Rattle.mg_engine.specs.Mix.{is_loopback}
 use Rattle.mg_engine.specs.Tick.{sent_to}
 
--- The number of talkers that are silenced for a listener: other members of its context that talk, but that the last
--- word mutes for this listener.
+-- The number of talkers that are silenced for a listener. These are other members of its context that talk, but that
+-- the last word mutes for this listener.
 abbrev pub silenced_for : Gateway → ℕ → ℕ
 silenced_for w listener = count_by (λ talker. is_silenced w talker listener) (numbers_of w)
 

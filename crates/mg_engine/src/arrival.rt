@@ -14,7 +14,7 @@ use mg_rtp::{Header, Packet, RtpFault};
 use mg_sdp::Chosen;
 use mg_words::{Peer, SAMPLES};
 
-/// Returns whether a datagram comes from an address other than the one in the termination's Remote.
+/// Returns whether a datagram comes from an address that differs from the address in the termination's Remote.
 fn is_stray(remote: Option<Chosen>, source: Peer) -> bool
     ensures value { result ≡ is_stray_source remote source.address }
 {

@@ -259,7 +259,7 @@ impl Engine {
         }
     }
 
-    /// Returns a member of the action's context, or the error if the termination isn't one.
+    /// Returns a member of the action's context, or an error if the termination isn't a member.
     pub fn find(&self, target: Target, number: u32) -> Result<Record, ErrorNumber>
         ensures value { (w : Gateway) → StandsFor self.now w → result ≡ member w.rooms target number }
         ensures stats { IfOk result (λ r. (w : Gateway) → StandsFor self.now w → HasStats self.now w r) }
@@ -342,7 +342,7 @@ impl Engine {
 
     /// Applies triples, in order, to the current members of the action's context (RFC 3525, section 7.1.18).
     ///
-    /// Returns the context's number. If there are errors, returns the first one and doesn't apply any triple.
+    /// Returns the context's number. If there are errors, returns the first error and doesn't apply any triple.
     pub fn apply_triples(
         &mut self,
         target: Target,
@@ -392,7 +392,7 @@ impl Engine {
         Ok(at.context)
     }
 
-    /// Returns the termination with this port, or `None` if there is none.
+    /// Returns the termination with this port, or `None` if no termination has this port.
     fn at_port(&self, port: u16) -> Option<Record>
         ensures value { result ≡ at_port self.now.rooms port }
         ensures sound { IsSound self.now.rooms }

@@ -32,7 +32,7 @@ fn is_same(a: Option<Room>, b: Option<Room>) -> bool
     }
 }
 
-/// Removes a row from its room, if it is joined to one.
+/// If a row is joined to a room, removes it from the room.
 pub fn part(sums: &mut Sums, row: Row)
     ensures rooms { SetsRow sums.old.rooms sums.new.rooms row None }
     ensures rows { length sums.new.rooms ≡ termination_limit }
@@ -44,7 +44,7 @@ pub fn part(sums: &mut Sums, row: Row)
     }
 }
 
-/// Joins a row to a room, if there is one. The row must not be joined to any room yet.
+/// Joins a row to a room, or does nothing if the room is `None`. The row must not be joined to any room yet.
 fn join(sums: &mut Sums, row: Row, room: Option<Room>)
     requires free { room_of sums.old row ≡ None }
     requires rows { length sums.old.rooms ≡ termination_limit }
@@ -58,8 +58,7 @@ fn join(sums: &mut Sums, row: Row, room: Option<Room>)
     }
 }
 
-/// Joins a member's row to the member's room if the member talks; otherwise, removes the row from its room, if it is
-/// joined to one.
+/// If a member talks, joins its row to its room. Otherwise, if the row is joined to a room, removes it from the room.
 pub fn join_if_talking(sums: &mut Sums, row: Row, room: u8, mode: Mode)
     requires room { room < context_limit }
     ensures rooms { SetsRow sums.old.rooms sums.new.rooms row (room_for mode room) }

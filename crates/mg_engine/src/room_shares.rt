@@ -43,7 +43,8 @@ impl RoomShares {
         self.shares.clear();
     }
 
-    /// Finds a recent packet that mixes exactly these talkers and uses this law. Returns `None` if there is none.
+    /// Finds a recent packet that mixes exactly these talkers and uses this law. Returns `None` if no such packet is
+    /// found.
     ///
     /// If everybody in a room talks, each member usually hears a different sum. The room then has a packet for each
     /// member, and searching all of them for every member would be quadratic. Members that only listen find their sum
@@ -68,7 +69,7 @@ impl RoomShares {
     }
 }
 
-/// Returns the first packet that mixes exactly these talkers and uses this law, or `None` if there is none.
+/// Returns the first packet that mixes exactly these talkers and uses this law, or `None` if no such packet is found.
 fn packet_among(shares: &[Share], talkers: Mask, law: Law) -> Option<u8>
     ensures found { IfSome result (λ packet. Contains shares.now
         (record { talkers = talkers; law = law; packet = packet })) }

@@ -47,8 +47,8 @@ impl Shares {
         clear_all(&mut self.rooms);
     }
 
-    /// Finds a recent packet of this room that mixes exactly these talkers and uses this law. Returns `None` if there
-    /// is none.
+    /// Finds a recent packet of this room that mixes exactly these talkers and uses this law. Returns `None` if no such
+    /// packet is found.
     pub fn find(&self, room: u8, talkers: Mask, law: Law) -> Option<u8>
         requires room { room < context_limit }
         ensures found { IfSome result (λ packet. Contains (shares_in self.now room)

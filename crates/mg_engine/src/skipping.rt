@@ -45,7 +45,7 @@ fn pass_slot(rooms: &Rooms, media: &mut Vec<HeldMedia>, slot: u8, count: u64)
     media[usize::from(slot)].pass(count, is_sent);
 }
 
-/// Counts several ticks for the terminations in these slots and, for those that send, as many packets.
+/// Counts several ticks for the terminations in these slots and, for the terminations that send, as many packets.
 pub fn pass_slots(rooms: &Rooms, held: &[u8], media: &mut Vec<HeldMedia>, count: u64)
     requires slots { EachIndex held.now (λ i. slice_index_or held.now i 0 < length media.old.items) }
     requires apart { AreApart held.now }

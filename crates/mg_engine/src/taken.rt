@@ -10,7 +10,7 @@ pub enum Taken {
     Dropped(DropCause),
 }
 
-/// Why an RTP datagram was dropped. If several causes apply, the first one in this list is reported.
+/// Why an RTP datagram was dropped. If several causes apply, the first cause in this list is reported.
 #[derive(Clone, Copy, Debug, PartialEq, Eq)]
 pub enum DropCause {
     /// No termination has the port.

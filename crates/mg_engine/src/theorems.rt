@@ -64,8 +64,8 @@ pub fn triples_are_limited()
 
 /// The terminations and contexts of a new gateway are consistent, and each edit and RTP datagram keeps them consistent.
 ///
-/// So they are consistent after any sequence of edits and datagrams. A proof can use this fact even where no
-/// `Engine` is in scope.
+/// So the terminations and contexts are consistent after any sequence of edits and datagrams. A proof can use this fact
+/// even where no `Engine` is in scope.
 pub fn worlds_are_consistent()
     ensures start { (config : Config) → IsValidConfig config → config.first_termination ≤ LAST_TERMINATION →
         IsConsistent (start_of config).rooms }
@@ -111,7 +111,7 @@ pub fn other_contexts_are_unaffected()
 /// If two gateways agree except on some terminations, they still agree on everything else after the same edit, datagram
 /// or tick.
 ///
-/// This holds even if only one of them receives an RTP datagram at the port of one of those terminations. The counters
+/// This holds even if only one gateway receives an RTP datagram at the port of one of those terminations. The counters
 /// are equal in both gateways, except for received packets.
 pub fn agreement_lasts()
     ensures edits { SameEditsKeepAgreement }

@@ -1,4 +1,4 @@
--- The members that hear each other after an edit, in terms of those that heard each other before it.
+-- Who hears whom after an edit, in terms of who heard whom before.
 use Rattle.std.proofs.Common.{◌≡◌, ℕ, Bool, true, false, not, ◌&&◌, ◌||◌, ◌==◌, cond, Option, Some, List, [], ◌∷◌, refl, sym, ap, ◌∙◌, arith}
 use Rattle.std.proofs.Math.Bool.{Bool-set}
 use Rattle.std.proofs.Math.Logic.{∥∥₁_elim}
@@ -39,8 +39,8 @@ may_hear-entered : (es : List FlowEdit) (place a b : Place) (t l : Bool) → (a.
     (may_hear es a b)
 may_hear-entered es place a b t l same = grind (arith, nat_tests)
 
--- Whether a listener hears a talker after an Enter. The flags a and b say whether the place is the new member's, x and
--- y whether it was held.
+-- Whether a listener hears a talker after an Enter. The flags a and b say whether a place is the new member's, and the
+-- flags x and y whether the place was held.
 pair-entered : (a b x y r d w w' : Bool) → (r ≡ true → w' ≡ cond (a || b) true w)
     → ((cond a true x && (cond b true y && (r && not d))) && w')
     ≡ cond (a || b) (cond a true x && (cond b true y && (r && not d))) ((x && (y && (r && not d))) && w)

@@ -113,8 +113,8 @@ new_stands table each = record {
 
 -- ---- the edits, one by one
 
--- A table after an edit of one room represents the new edits, if the room's topology and the members that talk and
--- listen agree with them.
+-- After an edit of one room, the table represents the new edits if the room agrees with them. That is, its topology and
+-- the members that talk and listen agree.
 edited : (table : List RoomFlows) (i : ℕ) (r : RoomFlows) (es es' : List FlowEdit) → i < length table
     → (kept.StandsFor (room_at table i).topology (edits_in i es) → kept.StandsFor r.topology (edits_in i es'))
     → ((k : ℕ) → k ≢ i → edits_in k es' ≡ edits_in k es)
@@ -130,7 +130,7 @@ edited table i r es es' within own quiet talkers listeners h = record {
   listeners = listeners;
 }
 
--- The next lemmas cover each edit: the old room is read, and the new one is written.
+-- The next lemmas cover each edit: the old room is read, and the new room is written.
 
 pub enter_stands : {table : List RoomFlows} {place : Place} {i s : ℕ} {old new : RoomFlows} {t l : Bool} →
     IsRead table place i s old

@@ -1,5 +1,5 @@
--- The edits of all rooms, newest first, and what follows from them (RFC 3525, sections 7.1.7 and
--- 7.1.18). That a newcomer and each member hear each other is this project's own rule.
+-- The edits of all rooms, newest first, and what follows from them (RFC 3525, sections 7.1.7 and 7.1.18). The rule that
+-- a newcomer and every member hear each other is this project's own.
 use Rattle.std.specs.Prelude.{ℕ, Bool, false, not, ◌&&◌, ◌==◌, if◌then◌else◌, List, [], ◌∷◌}
 use Rattle.mg_topology.specs.declared.triple.Triple.{Triple}
 use Rattle.mg_topology.specs.Edits as topology
@@ -74,8 +74,8 @@ abbrev pub flows_in : List FlowEdit → Place → Place → Bool
 flows_in es talker listener =
     talks_in es talker && (listens_in es listener && hears_in es talker listener)
 
--- Whether the talker is silenced for the listener: it talks in the same room, and the last word mutes it for the
--- listener.
+-- Whether the talker is silenced for the listener: the talker talks in the same room, and the last word mutes it for
+-- the listener.
 abbrev pub is_silenced_in : List FlowEdit → Place → Place → Bool
 is_silenced_in es talker listener =
     talks_in es talker

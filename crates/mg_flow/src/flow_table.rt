@@ -16,10 +16,10 @@ use std::marker::Model;
 
 /// Who hears whom in all rooms of a gateway, and the masks of each listener's talkers.
 ///
-/// In contracts, the table appears as the list of rooms, each with its topology, the mask of the members that talk and
-/// the mask of those that listen. Contracts describe the table in terms of `specs/aids/Table.antt`. The table that
-/// [`FlowTable::new`] returns represents the empty list of edits, and each call adds its edits to the lists that the
-/// table represents. So every table represents some list ([`each_table_represents_edits`]).
+/// In contracts, the table appears as the list of rooms. Each room has its topology, the mask of the members that talk,
+/// and the mask of the members that listen. Contracts describe the table in terms of `specs/aids/Table.antt`. The table
+/// that [`FlowTable::new`] returns represents the empty list of edits, and each call adds its edits to the lists that
+/// the table represents. So every table represents some list ([`each_table_represents_edits`]).
 ///
 /// [`each_table_represents_edits`]: crate::theorems::each_table_represents_edits
 #[derive(Debug, Drop)]
@@ -172,7 +172,7 @@ impl FlowTable {
         room.set_mode(usize::from(place.seat), talks, listens);
     }
 
-    /// Applies triples in the room, in order, so the last one to mention a pair wins.
+    /// Applies triples in the room, in order, so the last triple that mentions a pair wins.
     ///
     /// If the two sets of a Oneway triple share a seat, no triple is applied.
     pub fn on_triples(&mut self, room: u8, triples: &[Triple]) -> Result<(), Overlap>

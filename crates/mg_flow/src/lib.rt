@@ -6,7 +6,7 @@
 //! for each listener:
 //!
 //! - [`FlowTable::open`]: the members whose speech flows to the listener. Each of them talks, the listener listens, and
-//!   The last word on the pair lets the speech through (RFC 3525, section 7.1.18).
+//!   the last word on the pair lets the speech through (RFC 3525, section 7.1.18).
 //! - [`FlowTable::silenced`]: the room's talkers that the last word mutes for the listener.
 //!
 //! ```rust

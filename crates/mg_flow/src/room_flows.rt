@@ -12,8 +12,8 @@ use std::marker::Model;
 
 /// The state of one room.
 ///
-/// In contracts, it appears as its topology and the masks of who talks and who listens. Each listener's masks follow
-/// from these.
+/// In contracts, the state appears as the topology, the mask of the members that talk, and the mask of the members that
+/// listen. These determine each listener's masks.
 #[derive(Debug, Drop)]
 pub(crate) struct RoomFlows {
     topology: Topology,

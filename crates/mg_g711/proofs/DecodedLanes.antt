@@ -15,12 +15,12 @@ below_16 n h = grind (arith, nat_tests)
 small_fits : (n : ℕ) → nat_lt n 32768 ≡ true → FitsSigned w16 (pos n)
 small_fits n h = let small : n < 32768 = grind (arith, nat_tests) in omega (arith, ints)
 
--- A magnitude with its sign, which is negative if the inverted byte is at least 128.
+-- A magnitude with its sign. The sign is negative if the inverted byte is at least 128.
 abbrev with_sign : ℕ → ℕ → ℤ
 with_sign turned magnitude = to_z w16 (cond (top 15 (cond (ltb turned 128) 65535 0)) magnitude
     (magnitude * 65535 % 65536))
 
--- The decoding of mu-law, lane by lane.
+-- These definitions and lemmas are about decoding mu-law, lane by lane.
 abbrev pub mu_factors : List ℕ
 mu_factors = 1 ∷ 2 ∷ 4 ∷ 8 ∷ 16 ∷ 32 ∷ 64 ∷ 128 ∷ 0 ∷ 0 ∷ 0 ∷ 0 ∷ 0 ∷ 0 ∷ 0 ∷ 0 ∷ []
 
@@ -45,7 +45,7 @@ unfolding sample_of
 mu_sample_is b h = (Decides-int_eq (mu_sample b) (sample_of Mu b)).0
     (holds_below (λ i. int_eq (mu_sample i) (sample_of Mu i)) 256 refl b h)
 
--- The decoding of A-law, lane by lane.
+-- These definitions and lemmas are about decoding A-law, lane by lane.
 abbrev pub a_factors : List ℕ
 a_factors = 2 ∷ 2 ∷ 4 ∷ 8 ∷ 16 ∷ 32 ∷ 64 ∷ 128 ∷ 0 ∷ 0 ∷ 0 ∷ 0 ∷ 0 ∷ 0 ∷ 0 ∷ 0 ∷ []
 

@@ -12,7 +12,8 @@ use Rattle.mg_g711.proofs.Computed.{below_or_last, each_below, holds_below}
 use Rattle.mg_g711.proofs.Levels.{LiesIn, LiesIn-level_of, level_of_lies}
 use Rattle.mg_g711.proofs.Quantized.{quantized_is}
 
--- The error is the difference of two magnitudes, since encoding keeps the sign.
+-- Numbers with the same sign are as far apart as their magnitudes. Encoding keeps the sign, so the error is the
+-- difference of two magnitudes.
 signed_apart : (is_negative : Bool) (m n : ℕ) →
     unsigned_abs (signed is_negative m -ℤ signed is_negative n) ≡ (m - n) + (n - m)
 signed_apart true m n = omega (arith, ints)
@@ -31,7 +32,7 @@ error_is law v k is =
     ∙ signed_apart s (unsigned_abs v) (magnitude_of law (level_of law (unsigned_abs v)))
     ∙ ap (λ (i : ℕ). (unsigned_abs v - magnitude_of law i) + (magnitude_of law i - unsigned_abs v)) is
 
--- A level extends half a step below and above its value. Only the first level of mu-law starts at its value.
+-- Whether level k extends half a step below and above its value. Only the first level of mu-law starts at its value.
 abbrev is_centred : Law → ℕ → Bool
 is_centred law k =
     nat_eq (least_of law (suc k)) (magnitude_of law k + half_step_of law k)

@@ -28,7 +28,7 @@ sample_fits samples i frame =
       | inr past ↦ subst (FitsSigned w16) (sym (get_or_past samples i (pos 0) past)) zero_fits
     ]
 
--- Each byte decodes to a sample of 16 bits.
+-- A number whose magnitude is below 32768 fits in 16 bits. So each byte decodes to a sample of 16 bits.
 fits_by_size : (v : ℤ) → nat_lt (unsigned_abs v) 32768 ≡ true → FitsSigned w16 v
 fits_by_size v h = let small : unsigned_abs v < 32768 = grind (arith, nat_tests) in omega (arith, ints)
 

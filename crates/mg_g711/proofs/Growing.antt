@@ -33,7 +33,7 @@ grows_strictly n f up j k h l =
     let rest : f (suc j) ≤ f k = grows n f up (suc j) k (omega arith) l in
     omega arith
 
--- If f 0 is at most v, some k up to n has f k at most v, and f (k + 1) greater than v unless k is n.
+-- If f 0 is at most v, then f k is at most v for some k up to n. Unless k is n, f (k + 1) is greater than v.
 pub last_within : (f : ℕ → ℕ) (v n : ℕ) → f 0 ≤ v → (k : ℕ) × (k ≤ n) × (f k ≤ v) × (k < n → v < f (suc k))
 last_within f v zero low = (0, omega arith, low, λ h. absurd (omega arith))
 last_within f v (suc n) low =
@@ -58,7 +58,7 @@ count_step : (b : Bool) (x v k n a rest : ℕ) → ((b ≡ true) × (x ≤ v)) �
     cond b 1 0 + rest + a ≡ max a (min (k + 1) (a + suc n))
 count_step b x v k n a rest tells below above e = grind arith
 
--- If f is at most v for exactly the numbers up to k, counting these in a range counts the numbers up to k.
+-- Let f be at most v for exactly the numbers up to k. Then counting such numbers in a range counts the numbers up to k.
 count_split : (f : ℕ → ℕ) (v k n a : ℕ) → ((j : ℕ) → j ≤ k → f j ≤ v) → ((j : ℕ) → k < j → j < a + n → v < f j) →
     count_by (λ j. nat_le (f j) v) (range_with_len a n) + a ≡ max a (min (k + 1) (a + n))
 count_split f v k zero a below above = omega arith
@@ -70,7 +70,8 @@ count_split f v k (suc n) a below above =
     (count_step (nat_le (f a) v) (f a) v k n a (count_by (λ j. nat_le (f j) v) (range_with_len (a + 1) n))
     (leb_tells (f a) v) (below a) (λ h. above a h (omega arith)) rest)
 
--- If v lies between f k and the next value of f, exactly k of the numbers from 1 to n have values of at most v.
+-- Let v be at least f k and, unless k is n, less than f (k + 1). Then f is at most v for exactly k of the numbers from
+-- 1 to n.
 pub count_within : (n : ℕ) (f : ℕ → ℕ) → GrowsUpTo n f → (v k : ℕ) → k ≤ n → f k ≤ v → (k < n → v < f (suc k)) →
     count_by (λ j. nat_le (f j) v) (range_with_len 1 n) ≡ k
 count_within n f up v k small low high =

@@ -17,7 +17,7 @@ pub record Tells (n : ℕ) (ms : List Bool) (t : ℕ → Bool) : Type 0 where
   pub count : length ms ≡ n
   pub lane : (j : ℕ) → j < n → get_or ms j false ≡ t j
 
--- The lanes of an array, of a chunk of a slice, and of a vector that repeats a number.
+-- These lemmas give the lanes of an array, of a chunk of a slice, and of a vector that repeats a number.
 pub given_bytes : (n : ℕ) (xs : List ℕ) → length xs ≡ n → Holds n xs (λ j. get_or xs j 0)
 given_bytes n xs h = record { count = h; lane = λ j l. refl }
 
@@ -39,7 +39,7 @@ loaded w n at xs h =
 pub splat : (n y : ℕ) → Holds n (replicate n y) (λ _. y)
 splat n y = record { count = length-replicate n y; lane = λ j l. get_or-replicate n j y 0 l }
 
--- The lanes of a vector after an operator, a comparison or a selection.
+-- These lemmas give the lanes of a vector after an operator, a comparison or a selection.
 pub mapped : (g : ℕ → ℕ) {n : ℕ} {xs : List ℕ} {f : ℕ → ℕ} → Holds n xs f → Holds n (map g xs) (λ j. g (f j))
 mapped g {n = n} {xs = xs} {f = f} h = record {
   count = length-map xs g ∙ h.count;
@@ -91,7 +91,7 @@ each_both P {n = n} {xs = xs} {ys = ys} {f = f} {k = k} h i p =
     subst (λ (y : ℕ). P (get_or xs j 0) y) (sym (i.lane j lt))
     (subst (λ (x : ℕ). P x (k j)) (sym (h.lane j lt)) (p j lt)))
 
--- The lanes of a vector after a lookup in a table of 16 entries.
+-- This lemma gives the lanes of a vector after a lookup in a table of 16 entries.
 pub looked_up : (table : List ℕ) {xs : List ℕ} {f : ℕ → ℕ} → Holds 16 xs f → ((j : ℕ) → j < 16 → f j < 16) →
     Holds 16 (swz_l w8 16 table 0 xs) (λ j. get_or table (f j) 0)
 looked_up table {xs = xs} {f = f} h below = record {
@@ -107,7 +107,7 @@ pub lookups_fit : {xs : List ℕ} {f : ℕ → ℕ} → Holds 16 xs f → ((j : 
 lookups_fit {xs = xs} h below = SwzOk-from_below w8 16 1 16 0 xs refl (omega (arith, h.count))
     (each (λ (k : ℕ). k < 16) h below)
 
--- The elements of a slice after a vector is written into it.
+-- This lemma gives the elements of a slice after a vector is written into the slice.
 pub stored : (w : Width) {n : ℕ} {ys : List ℕ} {f : ℕ → ℕ} → Holds n ys f → (at : ℕ) (xs : List ℤ) →
     at + n ≤ length xs → WritesChunk n xs (put_chunk at xs (map (to_z w) ys)) at (λ j. to_z w (f j))
 stored w {n = n} {ys = ys} {f = f} h at xs room =

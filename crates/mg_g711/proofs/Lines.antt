@@ -35,7 +35,7 @@ least_line_small : (law : Law) (v : ℕ) → least_line law v ≤ 127
 least_line_small Mu v = omega arith
 least_line_small A v = omega arith
 
--- The minimum of the lines is the level at both ends of each level.
+-- These tests check, for each level, that the minimum of the lines is the level at its first and last magnitude.
 abbrev right_at_first : Law → ℕ → Bool
 right_at_first law k = nat_eq (least_line law (least_of law k)) k
 
@@ -58,7 +58,7 @@ last_is : (law : Law) (k : ℕ) → k < 127 → least_line law (least_of law (su
 last_is law k h = eqb-true (least_line law (least_of law (suc k) - 1)) k
     (holds_below (right_at_last law) 127 (last_all law) k h)
 
--- The minimum of the lines is the level everywhere, since it never decreases.
+-- The minimum of the lines is the level everywhere, since the minimum never decreases.
 right_in : (law : Law) (v k : ℕ) → LiesIn law v k → least_line law v ≡ k
 right_in law v k lies =
     let from : least_line law (least_of law k) ≤ least_line law v = least_line_grows law (least_of law k) v lies.from in
@@ -79,7 +79,7 @@ level_is law v = sym (right_in law v (level_of law v) (level_of_lies law v))
 pub level_a_is : (v : ℕ) → level_of A v ≡ upper_lines (min v 32767)
 level_a_is v = level_is A v
 
--- With mu-law's bias, all lines except the first are those of A-law.
+-- With mu-law's bias, all lines except the first are the same as for A-law.
 pub level_mu_is : (v : ℕ) → level_of Mu v ≡ min (min (v + 132) 32767 / 8 - 16) (level_of A (min (v + 132) 32767))
 level_mu_is v =
     let x : ℕ = min (v + 132) 32767 in

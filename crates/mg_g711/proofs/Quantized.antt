@@ -11,7 +11,8 @@ use Rattle.mg_g711.proofs.Computed.{each_below, holds_below}
 use Rattle.mg_g711.proofs.Growing.{grows}
 use Rattle.mg_g711.proofs.Levels.{least_of_grows, level_of_lies, magnitude_of_grows}
 
--- The byte of a level and a sign decodes to that level and sign.
+-- Inverting the bits of A-law twice yields the same byte. By the lemmas below, the byte of a level and a sign decodes
+-- to that level and sign.
 inverted_twice : (k : ℕ) → k < 256 → bit_xor (bit_xor k 0x55) 0x55 ≡ k
 inverted_twice k h = eqb-true (bit_xor (bit_xor k 0x55) 0x55) k
     (holds_below (λ i. nat_eq (bit_xor (bit_xor i 0x55) 0x55) i) 256 refl k h)
@@ -80,7 +81,7 @@ sample_comes_back Mu b h =
       | inr other ↦ ap (sample_of Mu) (byte_comes_back Mu b h (λ _. other))
     ]
 
--- Encoding and decoding preserve the order of samples.
+-- A greater magnitude never has a lower level, so encoding and decoding preserve the order of samples.
 level_of_keeps : (law : Law) (m n : ℕ) → m ≤ n → level_of law m ≤ level_of law n
 level_of_keeps law m n h =
     let low = level_of_lies law m in

@@ -8,13 +8,14 @@ use Rattle.mg_g711.specs.Law.{quantized_of}
 abbrev pub error_of : Law → ℤ → ℕ
 error_of law v = unsigned_abs (v -ℤ quantized_of law v)
 
--- Half the width of a level: half the interval size in tables 2 and 1 of G.711, times 4 in mu-law
--- and times 8 in A-law. The first two exponents of A-law have the same size.
+-- Half the width of a level: half the interval size in G.711, scaled by 4 for mu-law (table 2) and by 8 for A-law
+-- (table 1). The first two exponents of A-law have the same size.
 abbrev pub half_step_of : Law → ℕ → ℕ
 half_step_of Mu k = 2 ^ (k / 16 + 2)
 half_step_of A k = 2 ^ (max (k / 16) 1 + 2)
 
--- The end of the last level: the virtual decision values 8159 and 4096 of the same tables, scaled in the same way.
+-- The end of the last level: the virtual decision value of G.711, scaled in the same way. It is 8159 for mu-law and
+-- 4096 for A-law.
 abbrev pub end_of : Law → ℕ
 end_of Mu = 32636
 end_of A = 32768

@@ -6,13 +6,13 @@ use Rattle.std.specs.List.{range_with_len}
 use Rattle.mg_g711.specs.declared.law.Law.{Law}
 use Rattle.mg_g711.specs.declared.law.Law.TheVariants.{Mu, A}
 
--- The smallest magnitude in a level: the decision values of tables 2 and 1 of G.711, times 4 in mu-law and times 8 in
--- A-law.
+-- The smallest magnitude in a level: a decision value of G.711, scaled by 4 for mu-law (table 2) and by 8 for A-law
+-- (table 1).
 abbrev pub least_of : Law → ℕ → ℕ
 least_of Mu k = if k == 0 then 0 else (16 + k % 16) * 2 ^ (k / 16 + 3) - 132
 least_of A k = if nat_lt k 16 then 16 * k else (16 + k % 16) * 2 ^ (k / 16 + 3)
 
--- The decoded magnitude of a level: the quantized values of the same tables, scaled in the same way.
+-- The decoded magnitude of a level: a quantized value of the same tables, scaled in the same way.
 abbrev pub magnitude_of : Law → ℕ → ℕ
 magnitude_of Mu k = (8 * (k % 16) + 132) * 2 ^ (k / 16) - 132
 magnitude_of A k = if nat_lt k 16 then 16 * k + 8 else (16 * (k % 16) + 264) * 2 ^ (k / 16 - 1)
@@ -21,7 +21,7 @@ magnitude_of A k = if nat_lt k 16 then 16 * k + 8 else (16 * (k % 16) + 264) * 2
 unfoldable pub level_of : Law → ℕ → ℕ
 level_of law v = count_by (λ k. nat_le (least_of law k) v) (range_with_len 1 127)
 
--- The byte of a level and a sign: the character signals of the same tables. A-law inverts every other bit.
+-- The byte of a level and a sign: a character signal of the same tables. A-law inverts every other bit.
 abbrev pub byte_at : Law → Bool → ℕ → ℕ
 byte_at Mu is_negative k = if is_negative then 127 - k else 255 - k
 byte_at A is_negative k = if is_negative then bit_xor k 0x55 else bit_xor (128 + k) 0x55

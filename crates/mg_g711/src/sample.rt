@@ -12,9 +12,9 @@ const GREATEST: u16 = 32767;
 // The bits of a byte that A-law inverts.
 const INVERTED: u8 = 0x55;
 
-// Each exponent has a linear function ("line"). It equals `16 * exponent + mantissa` at the magnitude's own exponent,
-// and is never less than the level. So the level is the minimum of the lines. This needs no branch and no variable
-// shift, so the compiler can vectorize the encoding of a frame.
+// Each exponent has a linear function ("line"). The line of a magnitude's own exponent equals `16 * exponent +
+// mantissa`, and no line is less than the level. So the level is the minimum of the lines. Computing the minimum needs
+// no branch and no variable shift, so the compiler can vectorize the encoding of a frame.
 #[tactic(auto, using(crate::proofs::Lines::level_a_is))]
 fn level_a(magnitude: u16) -> u16
     requires { magnitude ≤ 32768 }

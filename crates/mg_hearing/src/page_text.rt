@@ -109,7 +109,7 @@ pub(crate) const SOURCE: &[u8] = b"<h2>Origin</h2>\n<dl>\n<dt>File</dt><dd>";
 /// The text before the number of bytes that were read.
 pub(crate) const SIZE: &[u8] = b"</dd>\n<dt>Bytes read</dt><dd>";
 
-/// The text before the SHA-256 of these bytes.
+/// The text in front of the SHA-256 of the bytes.
 pub(crate) const HASH: &[u8] = b"</dd>\n<dt>Their SHA-256</dt><dd><code>";
 
 /// The text before the time that the script covers.

@@ -14,12 +14,12 @@ use Rattle.std.specs.Option.{option_map}
 abbrev pub Grows : Option (List HostCall) → Option (List HostCall) → List HostCall → Type 0
 Grows old new calls = IfSome new (λ all. IsSomeAnd old (λ before. all ≡ before ++ calls))
 
--- If there is a log, the known bytes are those in the log.
+-- If there is a log, the known bytes are the bytes in the log.
 abbrev pub IsLogged : Option (List HostCall) → (known : Option (List ℕ)) → List ℕ → Type 0
 IsLogged calls known logged = IfSome calls (λ all. known ≡ Some logged)
 
--- The text that is read. If a file is given, it is the text of the file, and opening the file is logged. Otherwise it
--- is the input.
+-- The text that is read. If a file is given, the text is the content of the file, and opening the file is logged.
+-- Otherwise, the text is the input.
 abbrev pub ReadsFrom : (file : Option (List ℕ)) → (before after : Option (List HostCall))
     → (input text : Option (List ℕ)) → Type 0
 ReadsFrom None before after input text = (text ≡ input) × (after ≡ before)

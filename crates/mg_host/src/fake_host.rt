@@ -100,7 +100,7 @@ impl FakeHost {
         }
     }
 
-    /// Returns the calls so far, or `None` if there was no memory for one of them.
+    /// Returns the calls so far, or `None` if there was no memory for one of the calls.
     pub fn calls(&self) -> Option<&[HostCall]> {
         self.log.calls()
     }
@@ -167,7 +167,7 @@ impl Texts for FakeHost {
     }
 }
 
-/// Marks a socket, if there is a mark for it.
+/// Marks a socket, if it has a mark.
 fn mark(marks: &mut [bool], socket: usize)
     ensures value { marks.new ≡ slice_set marks.old socket true }
 {

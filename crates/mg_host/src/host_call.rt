@@ -4,17 +4,17 @@ use mg_ports::{Call, Payload, Peer};
 /// A call on a host, with its arguments and its result.
 #[derive(Drop)]
 pub enum HostCall {
-    /// The file of a journal was opened: its path, and the bytes in it, or `None` if it couldn't be opened.
+    /// An attempt to open the file of a journal: the path, and the bytes in the file, or `None` if the attempt failed.
     OpenJournal(Payload, Option<Payload>),
-    /// A file was opened to be read: its path, and its text, or `None` if it couldn't be opened.
+    /// An attempt to open a file to be read: the path, and the text in the file, or `None` if the attempt failed.
     OpenText(Payload, Option<Payload>),
-    /// The system's clock was read: the milliseconds since 1970 (UTC), or `None` if it couldn't be read.
+    /// A reading of the system's clock: the milliseconds since 1970 (UTC), or `None` if the clock couldn't be read.
     ReadDate(Option<u64>),
-    /// A socket was bound to an address and a port; the flag is false if this failed.
+    /// An attempt to bind a socket to an address and a port; the flag is false if the attempt failed.
     Bind([u8; 4], u16, bool),
     /// A datagram has arrived at this socket, according to the next poll.
     Reported(usize),
-    /// The host was asked at which sockets a datagram had arrived; the flag is false if this failed.
+    /// A question to the host at which sockets a datagram had arrived; the flag is false if the question failed.
     Poll(bool),
     /// A call of a session on its ports.
     OnPorts(Call),

@@ -1,10 +1,10 @@
 //! The machine on which a program runs, as the program sees it.
 //!
 //! A [`Host`] opens files, has UDP sockets and a clock, and knows the date. It may log the calls in one list, with
-//! their arguments and results ([`Tells`]), so that contracts can refer to the content of files and to the datagrams
+//! their arguments and results ([`Tells`]). So contracts can refer to the content of files and to the datagrams
 //! received and sent. `specs/HostCalls.antt` defines the log of calls.
 //!
-//! A program is generic over its host, so its contracts also hold for a host that logs its calls, and the program can't
+//! A program is generic over its host, so its contracts also hold for a host that logs its calls. The program can't
 //! find out whether it runs on such a host. The operating system logs nothing. [`FakeHost`] is a host in memory:
 //!
 //! ```rust

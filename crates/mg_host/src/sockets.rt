@@ -9,11 +9,11 @@ use crate::unsent::Unsent;
 use mg_ports::{Peer, PortFault, Timing};
 use std::io;
 
-/// A gateway's numbered UDP sockets. Each bind adds the next one: socket 0 is the control socket, and socket s + 1 is
-/// the media socket of slot s in the pool. No call blocks.
+/// A gateway's numbered UDP sockets. Each bind adds the next socket. Socket 0 is the control socket, and socket s + 1
+/// is the media socket of slot s in the pool. No call blocks.
 ///
-/// If a session decides something without asking the host, a call of its own logs the decision, so that the log has
-/// everything in order. A host that logs nothing does nothing in these calls.
+/// If a session makes a decision without asking the host, a separate call logs the decision, so that the log has
+/// everything in order. A host without a log ignores these calls.
 pub trait Sockets: Tells {
     /// Binds the next socket.
     fn bind(&mut self, address: [u8; 4], port: u16) -> io::Result<()>

@@ -11,8 +11,7 @@ pub trait Tells {
     /// All calls so far, in order, if they are known.
     ghost calls: { Self → Option (List HostCall) } = { λ _. None };
 
-    /// Logs that lines were appended to the journal, or that this failed. A host that logs nothing does nothing in this
-    /// call.
+    /// Logs that lines were appended to the journal, or that the append failed. A host without a log ignores this call.
     fn log_append(&mut self, lines: &[u8], durability: Durability, outcome: Result<(), AppendFault>)
         ensures logged { Grows (calls self.old) (calls self.new) (OnPorts (Append lines.now durability outcome) ∷ []) };
 }

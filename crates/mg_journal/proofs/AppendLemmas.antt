@@ -35,14 +35,14 @@ grown_nil file = ap (λ (known : Option (List ℕ)). record file { bytes = known
 pub grown_more : (file : FileState) (x y : List ℕ) → grown (grown file x) y ≡ grown file (x ++ y)
 grown_more file x y = ap (λ (known : Option (List ℕ)). record file { bytes = known }) (known_more file.bytes x y)
 
--- Writing the first `at` bytes of a text and then the next `n` bytes writes its first `at + n` bytes.
+-- If the first `at` bytes of the text were written, and then the next `n` bytes, the first `at + n` bytes were written.
 pub front_more : (file mid new : FileState) (text : List ℕ) (at n : ℕ) → mid ≡ grown file (take at text)
     → new ≡ grown mid (take n (drop at text)) → new ≡ grown file (take (at + n) text)
 front_more file mid new text at n front more =
     more ∙ (ap (λ f. grown f (take n (drop at text))) front ∙ (grown_more file (take at text) (take n (drop at text))
     ∙ ap (λ l. grown file l) (sym (take-add at n text))))
 
--- ## What the journal on a file becomes
+-- ## The journal in a file after an append
 
 abbrev Whole : Option (List ℕ) → ℕ → Type 0
 Whole known len = IfSome known (λ bytes. IsWhole bytes × (length bytes ≡ len))
@@ -111,13 +111,13 @@ cut_synced : (known : Option (List ℕ)) (len : ℕ) → Within known len
 cut_synced None len on = refl
 cut_synced (Some bytes) len on = ap (λ l. Some l) (take_all len bytes on)
 
--- Cutting a file back to its old length undoes a write.
+-- Truncating a file to its old length undoes a write.
 pub cut_off : (file : FileState) (len : ℕ) (more : List ℕ) → IsJournal file len false → cut_to len (grown file more) ≡ file
 cut_off file len more on =
     ap (λ (known : Option (List ℕ)). file_state known (option_map (λ bytes. take len bytes) file.synced)) (cut_bytes file.bytes len more on.0)
     ∙ ap (λ (known : Option (List ℕ)). file_state file.bytes known) (cut_synced file.synced len on.1)
 
--- If the append failed, either the journal is unchanged or it is broken.
+-- If an append fails, the journal is either unchanged or broken.
 pub left : (fault : AppendFault) (durability : Durability) (file new : FileState) (len : ℕ) (lines : List ℕ)
     → IsJournal file len false → Leaves lines len file new fault
     → IsJournal new len (is_final fault)
@@ -137,7 +137,7 @@ left Broken durability file new len lines on is = (
   },
 )
 
--- ## The same with the flag of a journal, which is known
+-- ## Appends to a journal that isn't broken
 
 pub put_as : (was : Bool) (durability : Durability) (file new : FileState) (len : ℕ) (lines : List ℕ) → was ≡ false
     → IsJournal file len was → IsWhole lines
@@ -165,7 +165,7 @@ still_broken old durability lines broken = record {
   none = λ was. refl;
 }
 
--- If all the lines were written, a prefix of them was written.
+-- If all the lines were written, they are a prefix of the lines.
 pub all_left : (file mid new : FileState) (lines : List ℕ) → mid ≡ grown file lines → new ≡ mid
     → new ≡ grown file (take (length lines) lines)
 all_left file mid new lines whole same = same ∙ (whole ∙ ap (λ l. grown file l) (sym (take-length lines)))

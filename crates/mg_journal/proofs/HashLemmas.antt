@@ -40,7 +40,7 @@ grown_as Synced file new len lines old after on holds adds is =
 grown_as Written file new len lines old after on holds adds is =
     subst (λ (f : FileState). IsHashed f after false) (sym is) (grown_of file.bytes len lines old after on.0 adds holds)
 
--- After an append, the hash is still that of the file's last part.
+-- After an append, the hash is still the hash of the file's last part.
 pub hash_put : (was : Bool) (durability : Durability) (file new : FileState) (len : ℕ) (lines : List ℕ) (old after : Sha256)
     → was ≡ false → IsJournal file len was → IsHashed file old was → Adds old after lines
     → new ≡ (if is_synced durability then synced (grown file lines) else grown file lines) → IsHashed new after was
@@ -48,7 +48,7 @@ hash_put true durability file new len lines old after works on holds adds is = a
 hash_put false durability file new len lines old after works on holds adds is =
     grown_as durability file new len lines old after on holds adds is
 
--- After a failed append, the hash is still that of the file's last part, unless the journal is broken.
+-- After a failed append, the hash is still the hash of the file's last part, unless the journal is broken.
 left : (fault : AppendFault) (file new : FileState) (len : ℕ) (lines : List ℕ) (hasher : Sha256)
     → IsJournal file len false → IsHashed file hasher false → Leaves lines len file new fault
     → IsHashed new hasher (is_final fault)
@@ -62,7 +62,7 @@ pub hash_left : (was : Bool) (fault : AppendFault) (file new : FileState) (len :
 hash_left true fault file new len lines hasher works on holds is = absurd cc
 hash_left false fault file new len lines hasher works on holds is = left fault file new len lines hasher on holds is
 
--- ## Cutting
+-- ## Truncating
 
 cut_of : (known : Option (List ℕ)) (len : ℕ) (hasher : Sha256) → IfSome known (λ bytes. Holds256 hasher (last_part (take len bytes)))
     → IfSome (option_map (λ bytes. take len bytes) known) (λ bytes. Holds256 hasher (last_part bytes))
@@ -82,7 +82,7 @@ whole_of None extent hasher all is holds = tt
 whole_of (Some bytes) extent hasher all is holds =
     subst (λ (l : List ℕ). Holds256 hasher (last_part l)) (take_all extent.whole bytes (omega (arith, is.1, all))) holds
 
--- If there is no partial last line, the hash of the complete lines is that of the whole file.
+-- If there is no partial last line, the hash of the complete lines is the hash of the whole file.
 pub hash_whole : (file : FileState) (extent : Extent) (hasher : Sha256) → extent.whole ≡ extent.all → HasExtent file extent
     → HasHash file extent.whole hasher → IsHashed file hasher false
 hash_whole file extent hasher all is holds = whole_of file.bytes extent hasher all is holds

@@ -33,7 +33,7 @@ wide_none (b ∷ bs) rest (suc from) none later wide =
     ap (λ is. is || has_mark (bs ++ rest)) (marks_same (b ∷ bs) rest (omega (arith, wide)) ∙ both.0)
     ∙ wide_none bs rest from both.1 later (omega (arith, wide))
 
--- If a chunk has no mark, and the text from `from` on has none, neither has the chunk together with the text after it.
+-- If neither a chunk nor the text from `from` on has a mark, the chunk together with the text after it has no mark.
 chunk_none : (chunk rest : List ℕ) (from : ℕ) → has_mark chunk ≡ false → has_mark (drop from (chunk ++ rest)) ≡ false
     → (0 < length rest → from + 9 ≤ length chunk) → has_mark (chunk ++ rest) ≡ false
 chunk_none chunk [] from none later wide = ap has_mark (append-nil chunk) ∙ none
@@ -58,7 +58,7 @@ mark_front (b ∷ bs) rest some = at (marks (b ∷ bs)) refl some (λ more. mark
         ap (λ first. first || has_mark (bs ++ rest)) (marks_same (b ∷ bs) rest (mark_fits (b ∷ bs) is) ∙ is)
     at false is some more = mark_cons b (bs ++ rest) (more some)
 
--- If a chunk has no mark after `start`, and the text from `from` on has none, there is no mark after `start`.
+-- If a chunk has no mark after `start`, and the text from `from` on has no mark, then there is no mark after `start`.
 last_none : (chunk rest : List ℕ) (from start : ℕ) → start ≤ length chunk → has_mark (drop start chunk) ≡ false
     → has_mark (drop from (chunk ++ rest)) ≡ false → (0 < length rest → from + 9 ≤ length chunk)
     → has_mark (drop start (chunk ++ rest)) ≡ false
@@ -78,7 +78,7 @@ start_of chunk rest from start is later wide = record {
   last = last_none chunk rest from start is.within is.last later wide;
 }
 
--- The start of the last part in the rest of a text is also that of the whole text, counted from its beginning.
+-- If the last part of the text from `at` on begins at `start`, the last part of the whole text begins at `at + start`.
 start_behind : (text : List ℕ) (at start : ℕ) → IsStart (drop at text) start → IsStart text (at + start)
 start_behind text at zero is = absurd (cc (is.before, is.last))
 start_behind text at (suc start) is = record {
@@ -115,7 +115,7 @@ chunk_of bytes whole at part is fits =
       λ more. omega (arith, more, length-drop k (drop at text), length-drop at text, length-take whole bytes),
     )
 
--- If the text has no mark from `from` on, neither has its rest from `at` on.
+-- If the text has no mark from `from` on, neither has the same part of its rest from `at` on.
 later_of : (bytes : List ℕ) (whole at from : ℕ) (all : List ℕ) → at ≤ from → drop at (take whole bytes) ≡ all
     → has_mark (drop from (take whole bytes)) ≡ false → has_mark (drop (from - at) all) ≡ false
 later_of bytes whole at from all order parts none =
@@ -156,7 +156,8 @@ some_of (Some bytes) whole at from start part is order fits wide starts later =
     part_of_start (take whole bytes) (at + start)
     (start_behind (take whole bytes) at start (subst (λ (l : List ℕ). IsStart l start) (sym c.1) here))
 
--- If a chunk has a mark, the last part of the file begins there.
+-- If the last part of a chunk begins at `start`, and no mark follows the chunk, the last part of the file begins there
+-- too.
 pub some_found : (file : FileState) (whole at from start : ℕ) (part : List ℕ) → HasBytes file at part → at ≤ from
     → at + length part ≤ whole → (at + length part < whole → from + 9 ≤ at + length part) → IsStart part start
     → IsSearched file whole from → StartsAt file whole (at + start)

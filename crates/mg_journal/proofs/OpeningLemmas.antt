@@ -1,4 +1,4 @@
--- Measuring, reading and cutting a file before lines are appended to it.
+-- Measuring, reading and truncating a file before lines are appended to it.
 use Rattle.std.proofs.Common.{◌≡◌, ℕ, ◌+◌, ◌-◌, ◌<◌, ◌≤◌, false, IfOk, List, [], ◌++◌, length, take, drop, Option, Some, None, Result, Ok, Err, IfSome, OnOk, refl, ap, sym, ◌∙◌, subst, arith, append_assoc, append-nil, length-append}
 use Rattle.std.proofs.lemmas.List.{drop-append-le, drop_all, length-drop, length-take, length-take-le, take-append-drop, take-append-le, take_all, take_at}
 use Rattle.std.proofs.Math.Seq.{drop-append-add}
@@ -37,7 +37,7 @@ end_of (Some bytes) synced extent at front =
     take_all extent.all bytes (omega (arith, ap length none, length-drop extent.all bytes)) in
     subst (λ (l : List ℕ). IsExtent extent l) all front.1
 
--- If no bytes follow the measured prefix, it is the whole file.
+-- If no bytes follow the measured prefix, the prefix is the whole file.
 pub front_end : (file : FileState) (extent : Extent) (part : List ℕ) → part ≡ [] → HasAt file extent.all part
     → HasFront file extent → HasExtent file extent
 front_end file extent part none at front =
@@ -101,7 +101,7 @@ pub consumes : (file : FileState) (extent : Extent) (at n : ℕ) (part : List �
 consumes file extent at n part is within size has =
     consumes_of file.bytes file.synced extent at n part is within size has
 
--- `peek` copies a prefix of the complete lines.
+-- These lemmas show that `peek` copies a prefix of the complete lines.
 pub nothing_taken : (known : Option (List ℕ)) → Consumes known known []
 nothing_taken None = tt
 nothing_taken (Some text) = refl
@@ -118,7 +118,7 @@ peeked (Ok n) file new extent most buffer rest is within some size reads = (
 )
 peeked (Err error) file new extent most buffer rest is within some size reads = tt
 
--- `peek_partial` copies a prefix of the bytes after the complete lines.
+-- These lemmas show that `peek_partial` copies a prefix of the bytes after the complete lines.
 part_at : (known synced : Option (List ℕ)) (at : ℕ) (part : List ℕ) → IfSome known (λ bytes. at ≡ length (whole_lines bytes))
     → HasAt (record { bytes = known; synced = synced }) at part
     → IfSome known (λ bytes. StartsWith (drop (length (whole_lines bytes)) bytes) part)
@@ -141,7 +141,7 @@ peeked_partial (Ok n) file new extent most buffer rest is some size reads =
     (reads.1 (omega (arith, some, size))))
 peeked_partial (Err error) file new extent most buffer rest is some size reads = tt
 
--- ## Cutting
+-- ## Truncating
 
 cut_whole : (known : Option (List ℕ)) (len : ℕ) → IfSome known (λ bytes. len ≡ length (whole_lines bytes))
     → IfSome (option_map (λ bytes. take len bytes) known) (λ bytes. IsWhole bytes × (length bytes ≡ len))
@@ -167,7 +167,7 @@ lengths : (known : Option (List ℕ)) (extent : Extent) → IfSome known (λ byt
 lengths None extent is = tt
 lengths (Some bytes) extent is = is.0
 
--- Cutting off a partial last line leaves a journal with the same text.
+-- Removing a partial last line leaves a journal with the same text.
 cut_partial : (file : FileState) (extent : Extent) → HasExtent file extent
     → IsJournal (cut_to extent.whole file) extent.whole false × (text_in (cut_to extent.whole file) ≡ text_in file)
 cut_partial file extent is =

@@ -1,4 +1,4 @@
--- The complete lines of a text.
+-- Lemmas about complete lines.
 use Rattle.std.proofs.Common.{◌≡◌, ◌≤◌, ℕ, suc, ◌+◌, ◌-◌, Bool, true, false, ◌||◌, List, [], ◌∷◌, ◌++◌, length, get_or, take, drop, refl, subst, ap, sym, ◌∙◌, append-nil, length-append, arith}
 use Rattle.std.proofs.Math.Seq.{get_or-append_seam}
 use Rattle.std.proofs.lemmas.Bool.Decides.{nat_tests}
@@ -26,7 +26,7 @@ fed_after a b fed = fed_append a b ∙ (ap (λ c. has_line_feed a || c) fed ∙ 
 fed_before : (a b : List ℕ) → has_line_feed b ≡ false → has_line_feed (a ++ b) ≡ has_line_feed a
 fed_before a b unfed = fed_append a b ∙ (ap (λ c. has_line_feed a || c) unfed ∙ or_false (has_line_feed a))
 
--- A text without a line feed has no complete line.
+-- Text without a line feed has no complete line.
 pub whole_none : (bytes : List ℕ) → has_line_feed bytes ≡ false → whole_lines bytes ≡ []
 unfolding whole_lines
 whole_none [] unfed = refl
@@ -49,7 +49,7 @@ after_as a b true fed whole = whole_before a b fed
 after_as a b false unfed whole =
     whole_same a b unfed ∙ (whole ∙ (sym (append-nil a) ∙ ap (λ l. a ++ l) (sym (whole_none b unfed))))
 
--- Text after complete lines begins a new line.
+-- If `a` consists of complete lines, the complete lines of `a ++ b` are `a` and the complete lines of `b`.
 pub whole_after : (a b : List ℕ) → IsWhole a → whole_lines (a ++ b) ≡ a ++ whole_lines b
 whole_after a b whole = after_as a b (has_line_feed b) refl whole
 
@@ -117,7 +117,7 @@ some_as : (bytes : List ℕ) (fed : Bool) → has_line_feed bytes ≡ fed → (l
 some_as bytes true fed some = fed
 some_as bytes false unfed some = absurd (some (ap length (whole_none bytes unfed)))
 
--- How much longer the complete lines get when text is appended, without a line feed or with one.
+-- These lemmas give the length of the complete lines after text is appended, without a line feed or with one.
 pub length_same : (text part : List ℕ) → length (whole_lines part) ≡ 0
     → length (whole_lines (text ++ part)) ≡ length (whole_lines text)
 length_same text part none = ap length (whole_same text part (zero_as part (has_line_feed part) refl none))
@@ -161,7 +161,7 @@ length_last text i last feed =
     ∙ ap whole_lines front ∙ whole_line (take i text) in
     sym (ap length whole ∙ length-append (take i text) (10 ∷ []) ∙ ap (λ (n : ℕ). n + 1) (length-take-le i text (omega (arith, last.high))))
 
--- ## Whole lines of whole lines
+-- ## The complete lines of complete lines
 
 fed_as : (b : ℕ) (bytes : List ℕ) (fed : Bool) → has_line_feed (b ∷ bytes) ≡ fed
     → has_line_feed (whole_lines bytes) ≡ has_line_feed bytes
@@ -206,7 +206,7 @@ ends_whole (b ∷ bytes) ends =
     last_byte b bytes ∙ ap (λ (c : ℕ). take (length bytes) (b ∷ bytes) ++ c ∷ []) feed in
     subst (λ (l : List ℕ). IsWhole l) (sym parts) (whole_line (take (length bytes) (b ∷ bytes)))
 
--- Used by callers that append a line feed themselves.
+-- A line ends in a line feed after a caller appends the line feed.
 pub ends_line : (line : List ℕ) → EndsInLineFeed (line ++ 10 ∷ [])
 ends_line line =
     let at : length (line ++ 10 ∷ []) - 1 ≡ length line = omega (arith, length-append line (10 ∷ [])) in

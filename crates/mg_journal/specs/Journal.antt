@@ -39,7 +39,8 @@ appended lines durability old = record old {
   synced = if is_synced durability then append_known old.text lines else old.synced;
 }
 
--- The journal is broken: some, all or none of the lines were written. If the journal was already broken, none were.
+-- The journal is broken: some, all or none of the lines were written. If the journal was already broken, no lines were
+-- written.
 pub record Breaks (lines : List ℕ) (old new : JournalState) : Type 0 where
   pub front : ℕ
   pub state : new ≡ record old {

@@ -18,7 +18,7 @@ unknown = record { bytes = None; synced = None }
 abbrev pub grown : FileState → List ℕ → FileState
 grown file more = record file { bytes = append_known file.bytes more }
 
--- The file after it was cut to this length.
+-- The file after it was truncated to this length.
 abbrev pub cut_to : ℕ → FileState → FileState
 cut_to len file = record {
   bytes = option_map (λ bytes. take len bytes) file.bytes;

@@ -4,7 +4,7 @@ ghost use Rattle.mg_journal.specs.aids.Opening.{IsExtent};
 
 use memchr::memrchr;
 
-/// The lengths of a text and of its complete lines, in bytes.
+/// The length of some text, and the length of its complete lines, in bytes.
 #[derive(Clone, Copy)]
 pub(crate) struct Extent {
     pub(crate) whole: u64,
@@ -12,7 +12,7 @@ pub(crate) struct Extent {
 }
 
 impl Extent {
-    /// Returns the extent of an empty text.
+    /// Returns the extent of empty text.
     pub(crate) fn new() -> Self
         ensures value { IsExtent result [] }
     {
@@ -34,7 +34,7 @@ impl Extent {
     }
 }
 
-/// Returns the length of a text's complete lines, which end with its last line feed.
+/// Returns the length of the complete lines of `text`, which end with its last line feed.
 fn whole_len(text: &[u8]) -> usize
     ensures value { result ≡ length (whole_lines text.now) }
 {

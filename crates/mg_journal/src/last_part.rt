@@ -8,8 +8,8 @@ use std::io::{self, ErrorKind};
 /// The maximum number of bytes that are read from a file at once.
 const CHUNK: usize = 64 * 1024;
 
-/// The number of bytes that two neighbouring chunks share, so that each mark, with the line feed in front of it, is
-/// completely in one of them.
+/// The number of bytes that two neighbouring chunks share. So each mark, with the line feed in front of it, is
+/// completely in one of the chunks.
 const OVERLAP: u64 = 9;
 
 /// The number of bytes by which the search moves towards the start of the file.
@@ -103,7 +103,7 @@ fn find_start<F: JournalFile>(whole: u64, file: &mut F) -> io::Result<u64>
     Err(io::Error::from(ErrorKind::TimedOut))
 }
 
-/// Adds a buffer full of bytes, read from the file at an offset, to the hash of a part.
+/// Reads bytes from the file at an offset until the buffer is full, and adds them to the hash of a part.
 fn hash_chunk<F: JournalFile>(
     at: u64,
     buffer: &mut [u8],

@@ -14,7 +14,7 @@
 //! ```
 //!
 //! An [`Opening`] reads the file's complete lines. It leaves the file unchanged until the caller accepts these lines.
-//! Then it cuts off a partial last line, which a crash may have left.
+//! Then it removes a partial last line, which a crash may have left.
 //!
 //! `specs/Text.antt` defines complete lines, and `specs/Journal.antt` defines the effect of [`Journal::append`]. The
 //! proof of a [`FileJournal`] relies only on `specs/JournalFile.antt`, the specification of a [`JournalFile`]. A

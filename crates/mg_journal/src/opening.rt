@@ -22,7 +22,7 @@ const CHUNK: usize = 64 * 1024;
 /// A journal's file that is read before lines are appended to it.
 ///
 /// Reading from this type returns the complete lines of the file. If the caller accepts them,
-/// [`accept`](Opening::accept) cuts off a partial last line and returns the journal. Until then the file isn't changed.
+/// [`accept`](Opening::accept) removes a partial last line and returns the journal. Until then the file isn't changed.
 #[derive(Drop)]
 pub struct Opening<F: JournalFile> {
     file: F,
@@ -83,7 +83,7 @@ fn measure<F: JournalFile>(file: &mut F) -> io::Result<Extent>
     Err(io::Error::from(ErrorKind::TimedOut))
 }
 
-/// Cuts off a partial last line.
+/// Removes a partial last line.
 fn cut_partial<F: JournalFile>(extent: Extent, file: &mut F) -> io::Result<()>
     ensures journal { HasExtent (F.file file.old) extent → IsSound (F.file file.old) →
         OnOk result (IsJournal (F.file file.new) extent.whole false) }
@@ -133,8 +133,8 @@ impl<F: JournalFile> Opening<F> {
         self.extent.whole != 0
     }
 
-    /// Copies the beginning of the file's complete lines into the buffer, and returns the number of bytes copied, or 0
-    /// if there are no complete lines. The next read is not affected.
+    /// Copies the beginning of the file's complete lines into the buffer. Returns the number of bytes copied, which is
+    /// 0 if there are no complete lines. The next read is not affected.
     pub fn peek(&mut self, buffer: &mut [u8]) -> io::Result<usize>
         ensures same { self.new ≡ self.old }
         ensures within { IfOk result (λ n. n ≤ length buffer.new) }
@@ -148,7 +148,7 @@ impl<F: JournalFile> Opening<F> {
         self.file.read(0, &mut buffer[..most])
     }
 
-    /// Copies the beginning of the partial last line into the buffer, and returns the number of bytes copied, or 0 if
+    /// Copies the beginning of the partial last line into the buffer. Returns the number of bytes copied, which is 0 if
     /// there is no partial line. The next read is not affected.
     pub fn peek_partial(&mut self, buffer: &mut [u8]) -> io::Result<usize>
         ensures same { self.new ≡ self.old }
@@ -163,7 +163,7 @@ impl<F: JournalFile> Opening<F> {
         self.file.read(self.extent.whole, &mut buffer[..most])
     }
 
-    /// Cuts off a partial last line. Returns the journal, ready for appends. Reads the file's last part again, for the
+    /// Removes a partial last line. Returns the journal, ready for appends. Reads the file's last part again, for the
     /// next seal.
     pub fn accept(self) -> io::Result<FileJournal<F>>
     where

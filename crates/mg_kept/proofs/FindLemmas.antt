@@ -6,7 +6,7 @@ use Rattle.std.specs.List.{find, filter, AllPairs}
 use Rattle.std.specs.Str.{str_eq_ignore_ascii_case}
 use Rattle.mg_kept.specs.KeptReplies.{KeptReply, is_reply_to, kept_text, AreDistinct}
 
--- If no reply is found, no kept text is found.
+-- If no kept text is found, no kept reply is found.
 none_of_map : (o : Option KeptReply) → option_map (λ (reply : KeptReply). reply.text) o ≡ None → o ≡ None
 none_of_map None h = refl
 none_of_map (Some x) h = cc
@@ -54,7 +54,7 @@ none_from_all p [] h = refl
 none_from_all p (x ∷ xs) h = rw (All-head (λ x. p x ≡ false) x xs h)
     (none_from_all p xs (All-tail (λ x. p x ≡ false) x xs h))
 
--- If `x` either fails the test or is left out, and the test finds nothing in `ys`, it still finds nothing.
+-- If `x` fails the test or is left out, and no reply in `ys` passes the test, a search still finds nothing.
 none_step : (p : KeptReply → Bool) (x : KeptReply) (ys : List KeptReply) (b : Bool) → (b ≡ true → p x ≡ false) →
     find p ys ≡ None → find p (cond b (x ∷ ys) ys) ≡ None
 none_step p x ys true h n = rw (h refl) n
@@ -65,7 +65,7 @@ pub none_in_filter : (p q : KeptReply → Bool) → ((r : KeptReply) → q r ≡
 none_in_filter p q h [] = refl
 none_in_filter p q h (x ∷ xs) = none_step p x (filter q xs) (q x) (h x) (none_in_filter p q h xs)
 
--- If `x` is left out only when it fails the test, the test still finds the same reply.
+-- If `x` is left out only when it fails the test, a search still finds the same reply.
 same_step : (p : KeptReply → Bool) (x : KeptReply) (ys xs : List KeptReply) (b : Bool) → (b ≡ false → p x ≡ false) →
     find p ys ≡ find p xs → find p (cond b (x ∷ ys) ys) ≡ find p (x ∷ xs)
 same_step p x ys xs true h n = rw n refl
@@ -76,7 +76,7 @@ pub same_in_filter : (p q : KeptReply → Bool) → ((r : KeptReply) → q r ≡
 same_in_filter p q h [] = refl
 same_in_filter p q h (x ∷ xs) = same_step p x (filter q xs) xs (q x) (h x) (same_in_filter p q h xs)
 
--- If every two entries of a list are related by `R`, the first is related to all the others.
+-- If every two entries of a list are related by `R`, the first entry is related to all the other entries.
 pub first_differs : (R : KeptReply → KeptReply → Type 0) (x : KeptReply) (xs : List KeptReply) → AllPairs R (x ∷ xs) →
     All (R x) xs
 first_differs R x xs h = λ k d lt. h 0 (suc k) d (omega arith) (omega arith)
@@ -94,7 +94,7 @@ none_more p (y ∷ ys) zero x lt n e f = rw (← e, f) refl
 none_more p (y ∷ ys) (suc i) x lt n e f =
     none_cons (p y) y (find p (take i ys)) (find p (take (suc i) ys)) n (λ m. none_more p ys i x (omega arith) m e f)
 
--- If the first `i` replies fail the test and the next one passes it, `find` returns that next one.
+-- If the first `i` replies fail the test and the next reply passes it, `find` returns the next reply.
 pub found_at : (p : KeptReply → Bool) (xs : List KeptReply) (i : ℕ) (x : KeptReply) → i < length xs →
     find p (take i xs) ≡ None → x ≡ get_or xs i x → p x ≡ true → find p xs ≡ Some x
 found_at p [] i x lt n e t = absurd (omega arith)
@@ -113,7 +113,7 @@ fails_at p [] k d n lt = absurd (omega arith)
 fails_at p (x ∷ xs) zero d n lt = first_fails (p x) x (find p xs) n
 fails_at p (x ∷ xs) (suc k) d n lt = fails_at p xs k d (later_none (p x) x (find p xs) n) (omega arith)
 
--- Distinct replies stay distinct without the first.
+-- Distinct replies stay distinct when the first reply is dropped.
 pub rest_is_distinct : (xs : List KeptReply) → AreDistinct xs → AreDistinct (drop 1 xs)
 rest_is_distinct [] h = h
 rest_is_distinct (x ∷ xs) h = λ i j d lt within. h (suc i) (suc j) d (omega arith) (omega arith)

@@ -13,7 +13,7 @@ use Rattle.mg_words.proofs.CutLemmas.{same_letters, letters_same}
 use Rattle.mg_kept.proofs.FindLemmas.{none_found, find_agree, same_sender, none_in_drop, find_before, same_in_filter, fails_at, rest_is_distinct, later_none}
 use Rattle.mg_kept.proofs.KeepLemmas.{kept_is_last, oldest_is_dropped}
 
--- ## In any list, by any test
+-- ## Searches in any list, with any test
 
 module _ (p : KeptReply → Bool) where
   -- The replies after the first that passes the test.
@@ -30,7 +30,7 @@ module _ (p : KeptReply → Bool) where
         | inr e ↦ let later : 0 < length (after xs) = rw e at some in rw e (omega (arith, after-shorter xs later))
       ]
 
-  -- A reply that is found comes before the replies of `after`.
+  -- If a reply is found, `after` has fewer replies than the list.
   after-fewer : (xs : List KeptReply) (r : KeptReply) → find p xs ≡ Some r → length (after xs) + 1 ≤ length xs
   unfolding after
   after-fewer [] r h = absurd cc
@@ -40,7 +40,7 @@ module _ (p : KeptReply → Bool) where
         | inr e ↦ let later : find p xs ≡ Some r = rw e at h in rw e (omega (arith, after-fewer xs r later))
       ]
 
-  -- Dropping fewer replies from the front than precede the found one leaves it, and `after`, unchanged.
+  -- If only replies before the reply that is found are dropped, the search still finds it, and `after` is unchanged.
   find-drop : (xs : List KeptReply) (n : ℕ) (r : KeptReply) → find p xs ≡ Some r → n + length (after xs) + 1 ≤ length xs
       → (find p (drop n xs) ≡ Some r) × (after (drop n xs) ≡ after xs)
   unfolding after
@@ -130,7 +130,7 @@ text_of_found replies sender text number r h is = rw (h, is) refl
 goes : List KeptReply → ℕ
 goes replies = length replies + 1 - kept_limit
 
--- ## After one more was kept
+-- ## After one more reply is kept
 
 pub few_newer_stay : FewNewerStay
 unfolding goes
@@ -190,7 +190,7 @@ last_is_newest replies reply sender none from =
 
 -- ## After an acknowledgement
 
--- If an acknowledgement does not name a request, it does not drop the reply to it.
+-- If an acknowledgement does not name a request, it does not drop the reply to that request.
 not_dropped : (first last number other : ℕ) (from to same : Bool) →
     (leb first number && leb number last && same) ≡ false → (from ≡ true → to ≡ true → same ≡ true)
     → not (leb first other && leb other last && from) ≡ false → (eqb other number && to) ≡ false

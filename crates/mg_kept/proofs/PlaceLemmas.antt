@@ -11,7 +11,7 @@ use Rattle.mg_kept.specs.KeptReplies.{KeptReply, is_in_range, is_reply_to, kept_
 use Rattle.mg_kept.specs.aids.Places.{AreFilledUpTo}
 use Rattle.mg_kept.proofs.FindLemmas.{none_found, none_in_drop, fails_at}
 
--- Storing one more reply in the next place keeps the invariant, if no other reply answers its request.
+-- Storing a new reply in the next place keeps the invariant, if no stored reply answers the same request.
 pub one_more : (places : List KeptReply) (len n : ℕ) (old : List KeptReply) (reply : KeptReply) →
     AreFilledUpTo places len → take len places ≡ drop n old → length (take len places) < kept_limit →
     kept_text old reply.sender reply.number ≡ None → AreFilledUpTo (set places len reply) (len + 1)
@@ -32,7 +32,7 @@ one_more places len n old reply filled is room none =
           (λ k d lt. fails_at (is_reply_to reply.sender reply.number) (take len places) k d absent lt));
     }
 
--- The first `n` entries of a list of `n` entries followed by more are the list itself.
+-- If a list of `n` entries is followed by more entries, the first `n` entries are that list.
 pub written_back : (n : ℕ) (xs ys : List KeptReply) → length xs ≡ n → take n (xs ++ ys) ≡ xs
 written_back n xs ys e = rw (← e) (take-append_seam xs ys)
 

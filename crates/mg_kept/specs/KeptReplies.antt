@@ -25,12 +25,12 @@ abbrev pub is_in_range : List ℕ → ℕ → ℕ → KeptReply → Bool
 is_in_range sender first last reply =
     nat_le first reply.number && nat_le reply.number last && is_from sender reply
 
--- The text of the kept reply to a request.
+-- The text of the kept reply to a request, or `None` if no reply to the request is kept.
 abbrev pub kept_text : List KeptReply → List ℕ → ℕ → Option (List ℕ)
 kept_text replies sender number =
     option_map (λ reply. reply.text) (find (is_reply_to sender number) replies)
 
--- The replies that were kept after the one that answers the request.
+-- The replies that were kept after the reply that answers the request.
 abbrev pub newer_than : List KeptReply → List ℕ → ℕ → List KeptReply
 newer_than [] sender number = []
 newer_than (reply ∷ replies) sender number =
@@ -40,7 +40,7 @@ newer_than (reply ∷ replies) sender number =
 abbrev pub newest : ℕ → List KeptReply → List KeptReply
 newest count replies = drop (length replies - count) replies
 
--- One more reply is kept, as the newest. If the limit is reached, the oldest is dropped.
+-- The replies after one more reply is kept, as the newest. If the limit is reached, the oldest reply is dropped.
 abbrev pub with_reply : KeptReply → List KeptReply → List KeptReply
 with_reply reply replies = newest kept_limit (replies ++ reply ∷ [])
 

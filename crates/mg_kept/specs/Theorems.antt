@@ -37,7 +37,7 @@ OnlyOldestIsDropped =
     → kept_text (with_reply reply (oldest ∷ rest)) sender number
     ≡ kept_text (oldest ∷ rest) sender number
 
--- A reply that was dropped for a newer one is not found.
+-- A reply that was dropped for a newer reply is not found.
 abbrev pub OldestIsDropped : Type 0
 OldestIsDropped =
     (oldest : KeptReply) (rest : List KeptReply) (reply : KeptReply) (sender : List ℕ)

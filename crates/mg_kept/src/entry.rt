@@ -58,7 +58,7 @@ impl Entry {
         self.text.push(text);
     }
 
-    /// Returns whether this is the reply to the sender's request with this number.
+    /// Returns whether the place has the reply to the sender's request with this number.
     pub(crate) fn is_reply_to(&self, sender: &[u8], number: u32) -> bool
         ensures value { result ≡ is_reply_to sender.now number self.now }
     {

@@ -39,7 +39,7 @@ impl Kept {
         Ok(Kept { places, len: 0 })
     }
 
-    /// Returns the kept reply to the sender's request with this number, or `None` if none is kept.
+    /// Returns the kept reply to the sender's request with this number, or `None` if no such reply is kept.
     pub fn find(&self, sender: &[u8], number: u32) -> Option<&[u8]>
         ensures value { MatchOption result (kept_text self.now sender.now number ≡ None)
             (λ text. kept_text self.now sender.now number ≡ Some text.now) }
@@ -53,9 +53,9 @@ impl Kept {
         None
     }
 
-    /// Keeps a reply as the newest one. Its request must not have a kept reply yet.
+    /// Keeps a reply as the newest reply. Its request must not have a kept reply yet.
     ///
-    /// If [`KEPT_REPLIES`] are kept already, the oldest is dropped.
+    /// If [`KEPT_REPLIES`] replies are kept already, the oldest is dropped.
     pub fn keep(&mut self, sender: &[u8], number: u32, text: &[u8])
         requires is_new { kept_text self.old sender.now number ≡ None }
         requires short { length sender.now ≤ SENDER_LIMIT }
@@ -70,7 +70,7 @@ impl Kept {
 
     /// Drops the sender's replies with the numbers from `first` to `last`.
     ///
-    /// If `first` exceeds `last`, none is dropped.
+    /// If `first` exceeds `last`, no reply is dropped.
     pub fn ack(&mut self, sender: &[u8], first: u32, last: u32)
         ensures value { self.new ≡ without_range sender.now first last self.old }
     {

@@ -42,7 +42,7 @@ pub fn only_acknowledged_is_dropped()
 
 /// A reply is kept until the limit on newer replies is reached, or until an acknowledgement names it.
 ///
-/// After that, it is kept again only if its own request is run again.
+/// After that, the reply is kept again only if its own request is run again.
 pub fn replies_stay_while_few_are_newer()
     ensures few { FewNewerStay }
     ensures many { NewerRepliesEvict }

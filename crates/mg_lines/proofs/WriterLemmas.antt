@@ -17,17 +17,17 @@ appends_keeps (Some a) None c x h k = absurd h
 appends_keeps (Some a) (Some b) None x h k = absurd k
 appends_keeps (Some a) (Some b) (Some c) x h k = k ∙ h
 
--- Appending to a non-empty text gives a non-empty text.
+-- Appending to non-empty text gives non-empty text.
 pub longer : (rest more : List ℕ) → 0 < length rest → 0 < length (rest ++ more)
 longer rest more some = rw (length-append rest more) (omega (arith, some))
 
--- Writing the first `i` bytes of a text and then the next `n` bytes writes its first `i + n` bytes.
+-- If a writer writes the first `i` bytes of the text, and then the next `n` bytes, the first `i + n` bytes are written.
 pub front_more : (a b c : Option (List ℕ)) (t part : List ℕ) (i n : ℕ) → i ≤ length t → part ≡ drop i t →
     Appends a b (take i t) → Appends b c (take n part) → Appends a c (take (i + n) t)
 front_more a b c t part i n le is h k = rw (take-add i n t)
     (appends_then a b c (take i t) (take n (drop i t)) h (rw is at k))
 
--- If writing stops before the end of a text, a proper prefix of the text was written.
+-- If writing stops before the end of the text, a proper prefix of the text was written.
 pub stops : (a b c : Option (List ℕ)) (t : List ℕ) (i : ℕ) → i < length t → Appends a b (take i t) → Keeps b c →
     WritesFront t a c
 stops a b c t i lt h k = record {

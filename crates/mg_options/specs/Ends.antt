@@ -9,7 +9,7 @@ use Rattle.mg_options.specs.Status.{code_of}
 use Rattle.mg_options.specs.declared.status.Status.{Status}
 use Rattle.mg_options.specs.declared.status.Status.TheVariants.{Done, Usage, NoMemory}
 
--- The effect on an output of reporting an error of this kind: help and the version are printed to the output, unless
+-- The effect of reporting an error of this kind on an output. Help and the version are printed to the output, unless
 -- that fails. Other errors leave the output unchanged.
 abbrev pub ReportsError : {W : Type 0} → ErrorKind → (unprinted : Status) → W → W → Status → Type 0
 ReportsError OutOfMemory unprinted old new status = (status ≡ NoMemory) × (new ≡ old)

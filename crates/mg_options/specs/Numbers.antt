@@ -12,7 +12,7 @@ abbrev pub number_rule : Text → ℕ → ℕ → Rule
 number_rule name least most =
     record (text_rule name) { parser = Some (Signed (pos least) (pos most)) }
 
--- The number that a text denotes in decimal digits, with an optional plus sign. `None` if the number is not below
+-- The number that a string denotes in decimal digits, with an optional plus sign. `None` if the number is not below
 -- `limit`.
 abbrev pub number_below : ℕ → Text → Option ℕ
 number_below limit text = let digits = without_leading_plus text in

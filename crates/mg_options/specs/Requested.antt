@@ -1,5 +1,5 @@
--- The run that the arguments request. If they request no run, the kinds of errors that say why: a request for help or
--- for the version counts as such an error.
+-- The run that the arguments request or, if they request no run, the kinds of errors that say why. A request for help
+-- or for the version counts as such an error.
 use Rattle.std.specs.Prelude.{◌≡◌, ◌⊎◌, [], ◌∷◌, IsErrAnd, Result, Err}
 use Rattle.clap.specs.Kinds.{Kinds, IsAmong}
 use Rattle.clap.specs.declared.error.kind.ErrorKind.{ErrorKind}

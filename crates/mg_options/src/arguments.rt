@@ -26,8 +26,8 @@ fn report_error<E: Write>(error: &io::Error, errors: &mut E) -> Status
 /// Returns the arguments of the running program, without the program's name. If they cannot be read, returns the exit
 /// status.
 ///
-/// Reading them fails if an argument is not valid UTF-8, which is a usage error, or if memory runs out. Errors are
-/// reported to `errors`.
+/// Reading the arguments fails if an argument is not valid UTF-8, which is a usage error, or if memory runs out. Errors
+/// are reported to `errors`.
 pub fn program_arguments<E: Write>(
     rt: &HostRuntime,
     errors: &mut E,

@@ -11,9 +11,9 @@
 //! ExitCode::from(status.code())
 //! ```
 //!
-//! A number is decimal, with an optional plus sign. The parser rejects anything else, and numbers that are too large,
-//! so a value is missing only if the option was not given. `specs/Numbers.antt` defines this, and `specs/Ends.antt`
-//! defines how a program ends.
+//! A number is decimal, with an optional plus sign. The parser rejects anything else, and also numbers that are too
+//! large. So a value is missing only if the option was not given. `specs/Numbers.antt` defines the numbers, and
+//! `specs/Ends.antt` defines how a program ends.
 #![tactic(auto)]
 
 mod arguments;

@@ -5,7 +5,7 @@ ghost use Rattle.mg_options.specs.Status.{code_of};
 #[derive(Clone, Copy, Debug, PartialEq, Eq)]
 pub enum Status {
     Done,
-    /// A script line is invalid, or a seal is wrong.
+    /// A script line or a seal is invalid.
     BadLine,
     /// The arguments or a configuration are invalid.
     Usage,

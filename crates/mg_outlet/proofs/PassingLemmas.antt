@@ -40,7 +40,7 @@ some_taken queue rest offered taken (starts, small, some) (n, is, more, fits, le
     sym (take-append-drop n queue) ∙ ap (λ (l : List ℕ). l ++ drop n queue) front in
     rw (is, left, append-nil (take n offered)) split
 
--- ## Everything
+-- ## Passing on a whole queue
 
 -- The calls so far passed on the old queue except for `rest`.
 abbrev pub Drained : (old rest : List ℕ) → (a b : Option (List PipeCall)) → Type 0
@@ -67,7 +67,7 @@ drained_refused old queue rest offered taken a b c drained wrote none same =
     drained_by old queue rest offered taken a b c drained wrote
     (sym same ∙ ap (λ (l : List ℕ). l ++ rest) (sym (none_taken offered taken none)))
 
--- ## Turns
+-- ## Passing on a queue in several steps
 
 -- The calls so far lead from the queue `old` to `queue`: if further calls pass on `queue`, all the calls together pass
 -- on `old`.
@@ -116,18 +116,18 @@ led_end : (most left : ℕ) (old queue rest : List ℕ) (a b c : Option (List Pi
 led_end most left old queue rest a b c more led called passes =
     (led.made ++ more, called_both a b c led.made more led.called called, led.leads rest more passes)
 
--- The calls end if the queue is empty or no writes are left.
+-- The calls are complete if the queue is empty or no writes are left.
 pub led_over : (most left : ℕ) (old queue : List ℕ) (a b : Option (List PipeCall)) → Led most left old queue a b
     → (queue ≡ []) ⊎ (left ≡ 0) → Passed most old queue a b
 led_over most left old queue a b led over = led_end most left old queue queue a b b [] led (called_none b) (refl, over)
 
--- The calls end if the pipe isn't ready.
+-- The calls are complete if the pipe isn't ready.
 pub led_unready : (most left : ℕ) (old queue : List ℕ) (a b c : Option (List PipeCall)) → Led most left old queue a b
     → 0 < left → queue ≢ [] → Continues b c (Asked false ∷ []) → Passed most old queue a c
 led_unready most left old queue a b c led some more asked =
     led_end most left old queue queue a b c (Asked false ∷ []) led asked (some, more, refl)
 
--- The calls end if the pipe took nothing.
+-- The calls are complete if the pipe took nothing.
 pub led_refused : (most left : ℕ) (old queue rest offered : List ℕ) (taken : Option ℕ) (a b c d : Option (List PipeCall))
     → Led most left old queue a b → 0 < left → queue ≢ [] → Continues b c (Asked true ∷ [])
     → Continues c d (Wrote offered taken ∷ []) → AreOldest queue offered → TookNone taken → rest ≡ queue

@@ -25,7 +25,7 @@ stream_moves left queue rest text calls (Some a) (Some b) called passes =
     ∙ ap (λ (l : List ℕ). l ++ text) (sym moved))
     ∙ sym (append_assoc (taken_in a) queue text)
 
--- A text that was appended to the whole stream keeps the stream whole.
+-- If the stream was whole, it is still whole after text is appended.
 begins_after : (all missing text : List ℕ) (a b : Option (List ℕ)) → Continues a b text
     → IfSome a (λ passed. all ≡ passed ++ missing) → missing ≡ [] → IfSome b (λ passed. all ++ text ≡ passed ++ [])
 begins_after all missing text a None goes parts none = tt
@@ -50,7 +50,7 @@ ended_true : (o : Overflow) (n : ℕ) → o ≡ End → 0 < n → (ends o && nat
 ended_true o n is some = rw is (grind (arith, nat_tests, some))
 
 module _ {P : Type 0} (calls : P → Option (List PipeCall)) where
-  -- The stream after some of the queue was passed on, and a text joined the queue.
+  -- The stream after some of the queue was passed on, and text joined the queue.
   grown : (most : ℕ) (rest text : List ℕ) (before after : Outlet P) → PassesOn calls most rest before after
       → queued after ≡ rest ++ text → Continues (stream calls before) (stream calls after) text
   grown most rest text before after passed queue =

@@ -9,7 +9,7 @@ use Rattle.mg_outlet.specs.declared.outlet.Outlet.{Outlet}
 use Rattle.mg_outlet.specs.declared.overflow.Overflow.{Overflow}
 use Rattle.mg_outlet.specs.declared.overflow.Overflow.TheVariants.{End, Skip}
 
--- Whether all later text is dropped after a text didn't fit.
+-- Whether an outlet drops all later text once a write didn't fit.
 abbrev pub ends : Overflow → Bool
 ends End = true
 ends Skip = false
@@ -19,7 +19,7 @@ module _ {P : Type 0} where
   abbrev pub queued : Outlet P → List ℕ
   queued o = o.queue.items
 
-  -- The text that is dropped if a text doesn't fit in the queue.
+  -- Whether the outlet drops all later text if a write doesn't fit in the queue, or only the text of that write.
   abbrev pub overflow : Outlet P → Overflow
   overflow o = o.overflow
 
@@ -48,7 +48,7 @@ module _ {P : Type 0} where
   abbrev pub has_ended : Outlet P → Bool
   has_ended o = ends (overflow o) && nat_lt 0 (dropped o)
 
-  -- Whether a text is dropped while these bytes are queued: it doesn't fit, or the outlet has ended.
+  -- Whether text is dropped while these bytes are queued: the text doesn't fit, or the outlet has ended.
   abbrev pub drops : Outlet P → (queue text : List ℕ) → Bool
   drops o queue text = nat_lt o.queue.capacity (length queue + length text) || has_ended o
 
@@ -62,14 +62,14 @@ module _ {P : Type 0} where
     abbrev pub stream : Outlet P → Option (List ℕ)
     stream o = option_map (λ made. taken_in made ++ queued o) (calls (pipe o))
 
-    -- The stream is a prefix of everything that was written, and all of it until the outlet ends.
+    -- The stream is a prefix of everything that was written. Until the outlet ends, nothing is missing.
     pub record BeginsWithStream (all : List ℕ) (o : Outlet P) : Type 0 where
       pub missing : List ℕ
       pub parts : IfSome (stream o) (λ passed. all ≡ passed ++ missing)
       pub whole : has_ended o ≡ false → missing ≡ []
 
-    -- Part of the queue was passed on, by at most this many writes, which left `rest`. An outlet that has failed passes
-    -- on nothing. The outlet drops text under the same conditions as before.
+    -- At most this many writes passed on part of the queue, and `rest` is left. An outlet that has failed passes on
+    -- nothing. The outlet drops text under the same conditions as before.
     pub record PassesOn (most : ℕ) (rest : List ℕ) (old new : Outlet P) : Type 0 where
       pub made : List PipeCall
       pub called : Continues (calls (pipe old)) (calls (pipe new)) made
@@ -77,13 +77,13 @@ module _ {P : Type 0} where
       pub same_limit : new.queue.capacity ≡ old.queue.capacity
       pub same_overflow : overflow new ≡ overflow old
 
-    -- Part of the queue was passed on, by at most this many writes, and nothing else changed.
+    -- At most this many writes passed on part of the queue, and nothing else changed.
     pub record IsFlushed (most : ℕ) (old new : Outlet P) : Type 0 where
       pub passed : PassesOn most (queued new) old new
       pub count : dropped new ≡ dropped old
 
-    -- If at least 4,096 bytes were queued, some were passed on, which left `rest`. Then the text joined the queue, or
-    -- the whole text was dropped and counted.
+    -- If at least 4,096 bytes were queued, some of them were passed on, and `rest` is left. Then the text joined the
+    -- queue, or the whole text was dropped and counted.
     pub record IsWritten (text : List ℕ) (old new : Outlet P) : Type 0 where
       pub rest : List ℕ
       pub passed : PassesOn (write_limit old) rest old new

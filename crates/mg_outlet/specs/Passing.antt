@@ -9,7 +9,8 @@ pub data PipeCall : Type 0 where
   Asked : (ready : Bool) → PipeCall
   Wrote : (offered : List ℕ) (taken : Option ℕ) → PipeCall
 
--- A log or a text grows by these elements. It may be lost; if it is known at the end, it was known all along.
+-- A list, for example a log, grows by these elements. The list may be lost; if it is known at the end, it was known all
+-- along.
 abbrev pub Continues : {X : Type 0} → Option (List X) → Option (List X) → List X → Type 0
 Continues old new more = IfSome new (λ all. IsSomeAnd old (λ before. all ≡ before ++ more))
 
@@ -27,7 +28,7 @@ AreOldest queue offered =
 abbrev pub TookNone : (taken : Option ℕ) → Type 0
 TookNone taken = (taken ≡ None) ⊎ (taken ≡ Some 0)
 
--- A pipe took the first bytes of those that were offered. `rest` is the queue after that.
+-- A pipe took some of the offered bytes, starting with the first. `rest` is the queue after that.
 abbrev pub TookSome : (queue rest offered : List ℕ) → (taken : Option ℕ) → Type 0
 TookSome queue rest offered taken =
     (n : ℕ) × (taken ≡ Some n) × (0 < n) × (n ≤ length offered) × (rest ≡ drop n queue)

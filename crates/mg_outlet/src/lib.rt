@@ -12,8 +12,8 @@
 //! If the reader is so slow that the queue is full, text is dropped; [`Overflow`] determines which text. Flush often,
 //! for example after each tick, and call [`Outlet::finish`] at the end.
 //!
-//! `specs/Outlet.antt` defines the effect of each call: written text joins the queue, unless it is dropped, and bytes
-//! move from the front of the queue to the pipe, as long as the pipe is ready. [`theorems`] states the consequences.
+//! `specs/Outlet.antt` defines the effect of each call. Written text joins the queue, unless it is dropped. Bytes move
+//! from the front of the queue to the pipe, as long as the pipe is ready. [`theorems`] states the consequences.
 #![tactic(auto)]
 
 mod outlet;

@@ -23,7 +23,7 @@ const FLUSH_CHUNKS: u16 = 256;
 ///
 /// A write adds all of its text to a queue in memory, or none of it. [`flush`](Write::flush) passes on as many bytes as
 /// it can without waiting, in order. So does [`write`](Write::write), if at least 4,096 bytes are queued already. A
-/// flush passes on at most 1 MiB and a write at most 4,096 bytes, so even a reader that catches up doesn't delay the
+/// flush passes on at most 1 MiB, and a write at most 4,096 bytes. So even a reader that catches up doesn't delay the
 /// caller for long.
 ///
 /// If the pipe fails, each later call returns its error, and nothing more is written. If a write was interrupted or
@@ -100,7 +100,8 @@ impl<P: Pipe> Outlet<P> {
         self.dropped
     }
 
-    /// Returns whether the outlet has ended. If so, a text didn't fit, and everything that is written later is dropped.
+    /// Returns whether the outlet has ended. If so, a write didn't fit, and everything that is written later is
+    /// dropped.
     pub fn has_ended(&self) -> bool
         ensures value { result ≡ has_ended self.now }
     {
@@ -135,7 +136,7 @@ impl<P: Pipe> Outlet<P> {
         self.keep(outcome)
     }
 
-    /// Returns the error of an earlier write to the pipe, if there was one.
+    /// Returns the error of an earlier write to the pipe, if an earlier write failed.
     fn check(&self) -> io::Result<()>
         ensures fails { IfErr result (λ e. failure self.now ≡ Some e) }
         ensures works { OnOk result (failure self.now ≡ None) }
@@ -174,7 +175,7 @@ impl<P: Pipe> Outlet<P> {
 }
 
 impl<P: Pipe> Write for Outlet<P> {
-    /// Accepts or drops a whole text, and returns its length in either case.
+    /// Accepts or drops all of the text, and returns the length of the text in either case.
     fn write(&mut self, text: &[u8]) -> io::Result<usize>
         ensures bound { WritesAtMost result text.now }
         ensures bytes { WriteAppends None None result text.now }

@@ -8,9 +8,9 @@ use std::time::Duration;
 
 /// Asks the system whether a descriptor is writable.
 ///
-/// On Linux, a pipe is writable if a page of 4,096 bytes is free in it, and a Unix stream socket if three quarters of
-/// its buffer is free. A write of at most 4,096 bytes then returns without waiting, even if the descriptor is blocking.
-/// This holds only if nobody else writes to the same pipe or socket.
+/// On Linux, a pipe is writable if a page of 4,096 bytes is free in it. A Unix stream socket is writable if three
+/// quarters of its buffer is free. A write of at most 4,096 bytes then returns without waiting, even if the descriptor
+/// is blocking. This holds only if nobody else writes to the same pipe or socket.
 #[derive(Drop)]
 pub(crate) struct Readiness {
     watched: Option<Watched>,

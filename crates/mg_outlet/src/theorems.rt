@@ -24,7 +24,7 @@ pub fn a_write_appends_to_the_stream<P: Pipe>(before: &Outlet<P>, after: &Outlet
         (if drops before.now written.rest text then [] else text) }
 {}
 
-/// Until an outlet with `Overflow::End` drops a text, the reader receives everything that was written. After that, the
+/// Until an outlet with `Overflow::End` drops text, the reader receives everything that was written. After that, the
 /// reader receives a prefix: only the end is dropped.
 pub fn the_reader_gets_a_prefix<P: Pipe>(before: &Outlet<P>, after: &Outlet<P>)
     ensures flush { (all : List ℕ) (most : ℕ) → IsFlushed P.calls most before.now after.now →

@@ -1,4 +1,4 @@
--- The consequences of words in which the command line finds no fault.
+-- Lemmas about words in which the command line finds no fault.
 use Rattle.std.proofs.Common.{◌≡◌, ◌∙◌, ◌<◌, ◌≤◌, true, List, [], refl, sym, ap, Ok, arith}
 use Rattle.clap.specs.Walk.{Row, Text, rows_of}
 use Rattle.clap.specs.Simple.{App, HasMatchesOf, matches_of}

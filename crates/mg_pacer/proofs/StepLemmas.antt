@@ -10,7 +10,7 @@ use Rattle.mg_pacer.specs.aids.Steps.{WritesLast, WritesSteps, quit_line}
 use Rattle.mg_clock.specs.Text.{step_lines}
 use Rattle.mg_clock.proofs.TextLemmas.{text_more}
 
--- The lines of a longer run begin with the lines of a shorter one.
+-- The lines of a longer run begin with the lines of a shorter run.
 pub text_gap : (polls from n : ℕ) → 0 < polls → (lines : List ℕ) × (text polls (from + n) ≡ text polls from ++ lines)
 text_gap polls from zero some =
     let same : from + 0 ≡ from = omega arith in

@@ -33,11 +33,11 @@ pub record Advances (old : Pace) (t : ℕ) (new : Pace) : Type 0 where
   -- If a tick was skipped, more than 49 ticks are written.
   pub needed : old.left < new.left → old.steps + 49 * old.polls < new.steps
 
--- The wait `d` after a reading `t`: the next step is due at the end of the wait, and none is due earlier.
+-- The wait `d` after a reading `t`: the next step is due at the end of the wait, and no step is due earlier.
 abbrev pub Waits : Pace → ℕ → ℕ → Type 0
 Waits p t d = IsTimeTo p.polls (steps_past p) t d
 
--- The pace after these readings, in order, with these waits: there is a wait after each reading, except after a last
+-- The pace after these readings, in order, with these waits. There is a wait after each reading, except after a last
 -- reading at which the run ends.
 abbrev pub Paces : Pace → List ℕ → List ℕ → Pace → Type 0
 Paces p [] [] q = q ≡ p

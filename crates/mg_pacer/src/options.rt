@@ -78,8 +78,8 @@ fn options_of(matches: &ArgMatches<'_>) -> Options
 
 /// Returns the options of the run that the arguments request. The arguments don't include the program's name.
 ///
-/// If the arguments don't request a run, the caller must report the error: a usage error, a request for help or the
-/// version, or lack of memory.
+/// If the arguments don't request a run, the caller must report the error. The error is a usage error, a request for
+/// help or the version, or lack of memory.
 pub fn requested_options<'a, S: AsStr>(alloc: Global, words: &'a [S]) -> Result<Options, Error>
     ensures requested { IfOk result (λ options. requested (map S.text words.now) ≡ Ok options) }
     ensures some { IfOk result (λ options. 0 < options.polls) }

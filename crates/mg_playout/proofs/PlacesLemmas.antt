@@ -1,4 +1,4 @@
--- The frames at the places after the places move down.
+-- The frames at places, before and after the frames move down.
 use Rattle.std.proofs.Common.{◌≡◌, ℕ, zero, suc, ◌+◌, ◌-◌, ◌++◌, ap, min, ℤ, true, List, [], ◌∷◌, length, drop, Option, Some, None, arith, refl, sym, inl, inr, ◌∙◌}
 use Rattle.std.proofs.lemmas.Bool.{cases_lt}
 use Rattle.std.proofs.lemmas.List.{get_or_append_left, get_or-append_right, get_or-drop, get_or-replicate, get_or_past, length-drop, length-replicate}
@@ -41,7 +41,7 @@ has_no_frame-drop [] (suc count) e = refl
 has_no_frame-drop (None ∷ places) (suc count) e = has_no_frame-drop places count e
 has_no_frame-drop (Some frame ∷ places) (suc count) e = cc
 
--- If no place from this one on has a frame, this place has no frame.
+-- If no place from `place` on has a frame, `place` has no frame.
 pub frame_at-none : (places : FramePlaces) (place : ℕ) → has_no_frame (drop place places) ≡ true →
     frame_at places place ≡ None
 frame_at-none [] place e = refl
@@ -49,7 +49,7 @@ frame_at-none (None ∷ places) zero e = refl
 frame_at-none (Some frame ∷ places) zero e = cc
 frame_at-none (x ∷ places) (suc place) e = frame_at-none places place e
 
--- An additional empty place does not change whether there is a frame from a place on.
+-- An additional empty place does not change whether any place from `place` on has a frame.
 pub has_no_frame-more : (places : FramePlaces) (place : ℕ) →
     has_no_frame (drop place (places ++ None ∷ [])) ≡ has_no_frame (drop place places)
 has_no_frame-more [] zero = refl
@@ -58,7 +58,8 @@ has_no_frame-more (None ∷ places) zero = has_no_frame-more places zero
 has_no_frame-more (Some frame ∷ places) zero = refl
 has_no_frame-more (x ∷ places) (suc place) = has_no_frame-more places place
 
--- After moving down by one, the places from `place` on are those that were from `place + 1` on.
+-- After moving down by one, the places from `place` on have no frame if and only if those from `place + 1` on had none
+-- before.
 pub has_no_frame-fallen : (places : FramePlaces) (place : ℕ) →
     has_no_frame (drop place (fallen places 1)) ≡ has_no_frame (drop (suc place) places)
 has_no_frame-fallen [] zero = refl

@@ -27,7 +27,7 @@ given_at-none : (places : FramePlaces) (last : Option (List ℤ)) (place : ℕ) 
     given_at places last place ≡ Silence
 given_at-none places last place e = ap (turn_step places last place) e
 
--- After moving down by one, what is played for a place is what was to be played for the next place.
+-- After moving down by one, what is played for a place is what was due for the next place before.
 given_at-fallen : (places : FramePlaces) (last : Option (List ℤ)) (place : ℕ) →
     given_at (fallen places 1) (frame_at places 0) place ≡ given_at places last (suc place)
 given_at-fallen places last place =
@@ -138,7 +138,7 @@ given_after-waited (suc total) wait ticks source places last positive is =
         let more : 1 < wait = grind (arith, nat_tests) in
         ap (λ b. given_after total (wait_step wait source places last b)) e ∙ rest more
 
--- The frames that a play list plays, given an equation for its phase.
+-- These lemmas give the frames that a play list plays, from an equation for its phase.
 pub given_after-running : (list : PlayList) (ticks : ℕ) → list.phase ≡ Run →
     given_after ticks list ≡ given_at list.places list.last ticks
 given_after-running list ticks is =

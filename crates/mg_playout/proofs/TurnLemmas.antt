@@ -1,4 +1,5 @@
--- The code finds the turn of a frame first and then places the frame. The result is that of the definition `placed`.
+-- The code finds the turn of a frame first and then places the frame. It has the same result as the definition
+-- `placed`.
 use Rattle.std.proofs.Common.{◌≡◌, ℕ, ℤ, List, Option, None, Some, arith, refl}
 use Rattle.std.proofs.lemmas.Grind.{common_steps}
 use Rattle.mg_playout.specs.Places.{FramePlaces}

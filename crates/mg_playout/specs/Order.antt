@@ -19,7 +19,7 @@ pub record IsValidList (list : PlayList) : Type 0 where
   pub places : ArePlaces list.places
   pub source : (source : Source) → list.source ≡ Some source → source.next < 65536
 
--- The frame that waits with this sequence number, if there is one.
+-- The frame that waits with this sequence number, or `None`.
 abbrev pub frame_under : PlayList → ℕ → Option (List ℤ)
 frame_under list sequence =
     option_and_then (λ source. frame_at list.places (steps_between source.next sequence)) list.source
@@ -29,7 +29,7 @@ abbrev pub given_after : ℕ → PlayList → Played
 given_after zero list = (ticked list).1
 given_after (suc ticks) list = given_after ticks (ticked list).0
 
--- The frame that is played just before the frame at the place, if there is one.
+-- The frame that is played just before the frame at the place, or `None`.
 abbrev pub frame_before : FramePlaces → Option (List ℤ) → ℕ → Option (List ℤ)
 frame_before places last zero = last
 frame_before places last (suc place) = frame_at places place

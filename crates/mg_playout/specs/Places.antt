@@ -9,7 +9,7 @@ use Rattle.mg_g711.specs.Frame.{IsFrame}
 abbrev pub FramePlaces : Type 0
 FramePlaces = List (Option (List ℤ))
 
--- The frame at the place, if there is one.
+-- The frame at the place, or `None` if the place is empty or does not exist.
 abbrev pub frame_at : FramePlaces → ℕ → Option (List ℤ)
 frame_at places place = slice_index_or places place None
 

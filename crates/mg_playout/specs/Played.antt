@@ -11,13 +11,13 @@ given (Some frame) last = Frame frame
 given None (Some last) = Concealed (map halved last)
 given None None = Silence
 
--- The frame that is heard, if any.
+-- The frame that is heard, or `None` for silence.
 abbrev pub sound_of : Played → Option (List ℤ)
 sound_of Silence = None
 sound_of (Frame frame) = Some frame
 sound_of (Concealed frame) = Some frame
 
--- The frame, if it was received in a packet.
+-- The frame that is played, or `None` if it was not received in a packet.
 abbrev pub frame_from_packet : Played → Option (List ℤ)
 frame_from_packet Silence = None
 frame_from_packet (Frame frame) = Some frame

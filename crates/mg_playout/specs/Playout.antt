@@ -37,7 +37,8 @@ depth_of list = length list.places
 abbrev pub first_list : PlayList
 first_list = record { phase = Idle; source = None; last = None; places = empty_places first_depth }
 
--- The play list after a start. The frame's sequence number is the next one, and the wait in ticks is half the depth.
+-- The play list after a start. The frame's sequence number becomes the next sequence number, and the wait in ticks is
+-- half the depth.
 abbrev pub started : PlayList → ℕ → ℕ → List ℤ → PlayList
 started list ssrc sequence frame = record {
   phase = Wait (depth_of list / 2);

@@ -95,7 +95,7 @@ impl Places {
         }
     }
 
-    /// Drops all frames, and stores a new one at place 0.
+    /// Drops all frames, and stores a new frame at place 0.
     pub(crate) fn start(&mut self, frame: Frame)
         ensures last { self.new.last ≡ None }
         ensures places { self.new.places ≡ started_with frame (length self.old.places) }

@@ -26,7 +26,7 @@ impl Played {
         }
     }
 
-    /// Returns whether this replaces a missing frame.
+    /// Returns whether the sound that is played replaces a missing frame.
     pub fn is_concealed(&self) -> bool
         ensures { result ≡ is_concealed self.now }
     {

@@ -80,7 +80,7 @@ impl Playout {
         }
     }
 
-    /// Advances by 20 ms, and returns the frame that is due. A missing frame is replaced by the previous one at half
+    /// Advances by 20 ms, and returns the frame that is due. A missing frame is replaced by the previous frame at half
     /// its level.
     pub fn tick(&mut self) -> Played
         ensures step { ticked self.old ≡ (self.new, result) }

@@ -13,7 +13,8 @@ pub const MAX_DROPOUT: i16 = 3000;
 /// The name and the value are from RFC 3550, appendix A.1, where a packet at exactly this distance counts as a jump.
 pub const MAX_MISORDER: i16 = 100;
 
-/// Returns how far a sequence number is ahead of the next one. The result is negative if the number is behind.
+/// Returns how far a sequence number is ahead of the next sequence number. The result is negative if the number is
+/// behind.
 pub(crate) fn distance(next: u16, sequence: u16) -> i16
     ensures { result ≡ distance_of next sequence }
 {

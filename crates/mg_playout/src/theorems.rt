@@ -78,7 +78,8 @@ pub fn ticks_give_frames_in_order()
 
 /// A single missing frame between two received frames is replaced by the frame before it, halved.
 ///
-/// A missing frame at place 0 is replaced by the last frame, if there is one and place 1 has a frame.
+/// If the frame at place 0 is missing, place 1 has a frame, and there is a last frame, the last frame replaces the
+/// missing one.
 pub fn one_missing_frame_is_concealed()
     ensures next { (places : FramePlaces) (last after : List ℤ) →
         frame_at places 0 ≡ None → frame_at places 1 ≡ Some after →

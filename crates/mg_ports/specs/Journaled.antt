@@ -1,4 +1,4 @@
--- The effects of calls on a gateway's ports on its journal.
+-- How calls on a gateway's ports change the gateway's journal.
 use Rattle.std.specs.Prelude.{◌≡◌, ◌≢◌, ◌⊎◌, ℕ, ◌≤◌, false, All, List, [], ◌∷◌, ◌++◌, length, codes}
 use Rattle.std.specs.Prelude.{Option, Result}
 use Rattle.mg_journal.specs.declared.append_fault.AppendFault.{AppendFault}
@@ -22,8 +22,7 @@ IsComment line =
     (text : List ℕ) × (line ≡ codes "# " ++ (text ++ codes "\n")) × (length text ≤ 1000)
     × All (λ b. b ≢ 10) text
 
--- Lines were appended, possibly preceded by the seal of the journal's last part, and by another
--- comment.
+-- Lines were appended. The seal of the journal's last part and another comment may precede the lines.
 abbrev pub AppendsDated : List ℕ → Durability → JournalState → JournalState
     → Result (Unit {0}) AppendFault → Type 0
 AppendsDated lines durability old new result =

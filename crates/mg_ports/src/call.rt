@@ -4,8 +4,7 @@ use mg_clock::Timing;
 use mg_journal::{AppendFault, Durability};
 use mg_words::Peer;
 
-/// A call on a gateway's ports: a receive with its socket and result, a send with its socket and arguments, the
-/// beginning of a tick, or an append to the journal with its arguments and result.
+/// A call on a gateway's ports, with its arguments. A receive and an append also have their results.
 #[derive(Drop)]
 pub enum Call {
     Receive(usize, Receipt),

@@ -76,7 +76,7 @@ impl FakePorts {
         }
     }
 
-    /// Returns the calls so far, or `None` if there was no memory for one of them.
+    /// Returns the calls so far, or `None` if there was no memory for one of the calls.
     pub fn calls(&self) -> Option<&[Call]> {
         self.log.calls()
     }

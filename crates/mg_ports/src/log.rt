@@ -5,7 +5,7 @@ use crate::call::Call;
 use std::alloc::Global;
 use std::marker::Model;
 
-/// A list of calls. If there is no memory for one of them, the list is lost.
+/// A list of calls. If there is no memory for a call, the list is lost.
 #[derive(Drop)]
 pub struct Log {
     calls: Option<Vec<Call>>,

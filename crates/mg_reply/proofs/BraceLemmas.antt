@@ -1,4 +1,4 @@
--- A reader of braces, which finds the brace that closes the first opening brace of a text.
+-- A reader of braces, which finds the brace that closes the first opening brace.
 use Rattle.std.proofs.Common.{◌≡◌, ℕ, ◌+◌, ◌/◌, ◌%◌, ◌<◌, zero, suc, eqb, ltb, Bool, true, false, not, ◌&&◌, ◌||◌, cond, List, [], ◌∷◌, ◌++◌, Option, Some, None, refl, ap, ◌∙◌, append_assoc, arith, codes, decimal}
 use Rattle.std.proofs.lemmas.Bool.{and_parts, and_from, ne_eqb, lt-ltb}
 use Rattle.std.specs.List.{list_all}
@@ -61,7 +61,7 @@ plain_passed (c ∷ cs) h d t =
     let parts = and_parts (is_plain c) (list_all is_plain cs) h in
     plain_step d c (cs ++ t) parts.0 ∙ plain_passed cs parts.1 d t
 
--- The digits of a number contain no brace.
+-- These lemmas show that the digits of a number contain no brace.
 glyph_plain : (d : ℕ) → d < 10 → is_plain (digit_glyph false d) ≡ true
 glyph_plain d h = by_test (ltb d 10) (lt-ltb d 10 h)
   where
@@ -95,7 +95,7 @@ decimal_passed n = plain_passed (decimal n) (decimal_plain n)
 pub decimal_is_passed : (n : ℕ) → IsPassed (decimal n)
 decimal_is_passed n = λ d t. decimal_passed n (suc d) t
 
--- The bytes of a word contain no brace.
+-- These lemmas show that the bytes of a word contain no brace.
 mark_by : (x a b c d e f : Bool) → (x && not (((((a || b) || c) || d) || e) || f)) ≡ true → (not a && not b) ≡ true
 mark_by true true b c d e f h = absurd cc
 mark_by true false true c d e f h = absurd cc
@@ -112,7 +112,7 @@ word_plain (c ∷ cs) h =
 pub word_passed : (p : List ℕ) → list_all is_word_byte p ≡ true → IsPassed p
 word_passed p h = λ d t. plain_passed p (word_plain p h) (suc d) t
 
--- Reading over a list of parts leaves the number of open braces unchanged.
+-- Reading over each part of a list leaves the number of open braces unchanged.
 abbrev pub ArePassed : List (List ℕ) → Type 0
 ArePassed [] = Unit {0}
 ArePassed (x ∷ xs) = IsPassed x × ArePassed xs

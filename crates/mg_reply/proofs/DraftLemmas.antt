@@ -3,7 +3,8 @@ use Rattle.std.proofs.Common.{◌≡◌, ℕ, ◌+◌, ◌-◌, leb, Bool, true,
 use Rattle.std.proofs.lemmas.Bool.{lt-leb, leb-false}
 use Rattle.mg_reply.specs.aids.Draft.{Drafted, limited, grown, drafted}
 
--- A text that is too long remains too long when a part is appended.
+-- A reply with an appended part is limited like any text. Text that is too long remains too long when a part is
+-- appended.
 grown-limited : (x b : List ℕ) (fits : Bool) → leb (length x) 16000 ≡ fits →
     grown (cond fits (Some x) None) b ≡ limited (x ++ b)
 grown-limited x b true e = refl

@@ -54,7 +54,7 @@ texts_by : (b : Bool) (x : Item) (xs : List Item) →
 texts_by true x xs = refl
 texts_by false x xs = refl
 
--- The texts of a kind, split into those of the first item and those of the others.
+-- The texts of a kind are the first item's text, if the item is of this kind, and then the texts of the other items.
 pub texts_of-cons : (kind : EntryKind) (x : Item) (xs : List Item) →
     texts_of kind (x ∷ xs) ≡ texts_of kind (x ∷ []) ++ texts_of kind xs
 texts_of-cons kind x xs = texts_by (is_of kind x) x (filter (is_of kind) xs)

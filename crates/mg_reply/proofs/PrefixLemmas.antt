@@ -44,7 +44,7 @@ use Rattle.mg_reply.specs.Written.{action_text, actions_text, items_text, reply_
 use Rattle.mg_reply.specs.Theorems.{has_terms, NoProperPrefix}
 use Rattle.mg_reply.proofs.BraceLemmas.{after, IsPassed, passed-append, passed_inside, decimal_passed, decimal_is_passed, word_passed, ArePassed, are_passed-append, next_passed, grouped_passed}
 
--- Keywords contain no brace.
+-- These lemmas show that keywords contain no brace.
 mode_passed : (m : Mode) → IsPassed (mode_text m)
 unfolding mode_text
 mode_passed SendOnly = λ d t. refl
@@ -70,7 +70,7 @@ command_passed AuditCapability = λ d t. refl
 command_passed Notify = λ d t. refl
 command_passed ServiceChange = λ d t. refl
 
--- Reading over a number and a text leaves the number of open braces unchanged.
+-- If reading over a part leaves the number of open braces unchanged, so does reading over a number and that part.
 number_then : (n : ℕ) (p : List ℕ) → IsPassed p → IsPassed (decimal n ++ p)
 number_then n p rest = passed-append (decimal n) p (decimal_is_passed n) rest
 
@@ -115,7 +115,7 @@ term_passed : (t : List ℕ) → is_term t ≡ true → IsPassed t
 term_passed t h = word_passed t (and_parts (not (eqb (length t) 0) && nat_le (length t) 64) (list_all is_word_byte t)
     h).1
 
--- The braces of a session description are balanced.
+-- These lemmas show that the braces of a session description are balanced.
 law_passed : (l : Law) → IsPassed (law_text l)
 law_passed Mu = λ d t. refl
 law_passed A = λ d t. refl
@@ -139,7 +139,7 @@ session_passed c =
     passed-append (address_text c.address) (codes "\r\n" ++ (codes "m=audio " ++ (decimal c.port ++ media)))
     (address_passed c.address) port
 
--- The braces of media and statistics are balanced.
+-- These lemmas show that the braces of media and statistics are balanced.
 control_passed : (c : Control) → IsPassed (control_text c)
 unfolding control_text
 control_passed c =
@@ -194,7 +194,7 @@ parts_passed : (p : Parts) → ArePassed (reported_parts p)
 parts_passed p = are_passed-append (optional media_text p.media) (optional statistics_text p.statistics)
     (optional_passed media_text p.media media_passed) (optional_passed statistics_text p.statistics statistics_passed)
 
--- The braces of an item are balanced.
+-- These lemmas show that the braces of an item are balanced.
 outcome_passed : (o : Outcome) → IsPassed (outcome_text o)
 outcome_passed (Failed e) = grouped_passed (error_text e ∷ []) (error_passed e, tt)
 outcome_passed (Done parts) = grouped_passed (reported_parts parts) (parts_passed parts)
@@ -211,7 +211,7 @@ item_passed (Command word term outcome) h =
 item_passed (Fault e) h = error_passed e
 item_passed (Action id) h = λ d t. refl
 
--- The braces of the entries of an action are balanced.
+-- These lemmas show that the braces of the entries of an action are balanced.
 texts_passed : (kind : EntryKind) (xs : List Item) → list_all has_terms xs ≡ true → ArePassed (texts_of kind xs)
 texts_passed kind [] h = tt
 texts_passed kind (x ∷ xs) h =
@@ -241,7 +241,7 @@ action_passed : (id : ContextId) (xs : List Item) → list_all has_terms xs ≡ 
 action_passed id xs h = passed-append (context_text id) (grouped (entries_of xs)) (context_passed id)
     (grouped_passed (entries_of xs) (entries_passed xs h))
 
--- The braces of actions are balanced.
+-- These lemmas show that the braces of actions are balanced.
 one_more : (xs : List Item) (x : Item) → list_all has_terms xs ≡ true → has_terms x ≡ true →
     list_all has_terms (xs ++ x ∷ []) ≡ true
 one_more xs x h one = list_all-append has_terms xs (x ∷ []) ∙

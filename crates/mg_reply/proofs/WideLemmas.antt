@@ -168,7 +168,7 @@ actions-long mark s p (Fault n ∷ xs) m h w e =
     more mark s p xs (Fault n) (actions-long mark s (p ++ Fault n ∷ []) xs m (part-after p (Fault n) h two.0) two.1
     (rw (is_none-after p (Fault n)) e))
 
--- Adding an item keeps the mark of a reply that is too long, and the number of the transaction.
+-- Adding an item keeps the number of the transaction. A reply that is marked as too long remains marked.
 put-long : (a b : Bool) (r : Answered) (x : Item) → r.is_long ≡ true →
     (cond a (with_item r x 0) (cond b (marked r) (with_item r x 1))).is_long ≡ true
 put-long true b r x h = h
@@ -227,7 +227,7 @@ fits r (Fault n ∷ xs) h le = kept-by r (Fault n) xs 1 (takes r (Fault n) refl 
 fits r (Action id ∷ xs) h le = action-fits r id xs r.has_pending refl le
     (λ l. fits (with_item r (Action id) 0) xs h l) (λ l. fits (with_item r (Action id) 1) xs h l)
 
--- If there is no room for an item, the reply is marked as too long.
+-- These lemmas show that a reply is marked as too long if there is no room for an item.
 over-by : (r : Answered) (x : Item) (xs : List Item) (q : Answered) → after_put r x ≡ q →
     (after_all q xs).is_long ≡ true → (after_all r (x ∷ xs)).is_long ≡ true
 over-by r x xs q e h = subst (λ (q : Answered). (after_all q xs).is_long ≡ true) (sym e) h

@@ -1,4 +1,4 @@
--- The lengths of message heads, and appending texts one after another.
+-- The lengths of message heads, and appending parts of text one after another.
 use Rattle.std.proofs.Common.{◌≡◌, ℕ, ◌-◌, ◌^◌, ◌<◌, ◌≤◌, List, ◌++◌, length, ap, ◌∙◌, append_assoc, length-append, arith, decimal, codes}
 use Rattle.mg_reply.specs.Bytes.{Written, appended}
 use Rattle.mg_words.proofs.DecimalLemmas.{number_short, port_short}

@@ -11,7 +11,7 @@ use Rattle.mg_words.specs.declared.stats.Stats.{Stats}
 use Rattle.mg_reply.specs.declared.outcome.Parts.{Parts}
 use Rattle.mg_reply.specs.Listed.{grouped}
 
--- The text of the mode, and of the depth of the play list in milliseconds, 20 per frame.
+-- The text of the mode and of the depth of the play list. The depth is written in milliseconds, 20 for each frame.
 unfoldable pub control_text : Control → List ℕ
 control_text c =
     codes "LocalControl{Mode=" ++ (mode_text c.mode
@@ -23,7 +23,7 @@ local_text chosen = codes "Local{" ++ (session_text chosen ++ codes "}")
 unfoldable pub remote_text : Chosen → List ℕ
 remote_text chosen = codes "Remote{" ++ (session_text chosen ++ codes "}")
 
--- The text of a part, if there is a part.
+-- A list with the text of an optional part. The list is empty if the part is missing.
 abbrev pub optional : {A : Type 0} → (A → List ℕ) → Option A → List (List ℕ)
 optional text None = []
 optional text (Some a) = text a ∷ []

@@ -4,8 +4,8 @@ use Rattle.std.specs.Prelude.{◌==◌, not, List, [], ◌∷◌, ◌++◌, if�
 use Rattle.mg_reply.specs.declared.item.Item.{Item}
 use Rattle.mg_reply.specs.declared.item.Item.TheVariants.{Fault, Action}
 
--- The number of the transaction, the items so far, the room that remains, whether items wait for the end of their
--- action, and whether there was no room for an item.
+-- A reply: the number of its transaction, its items so far, and the room that remains. Two flags say whether items wait
+-- for the end of their action, and whether an item found no room.
 pub record Answered : Type 0 where
   pub number : ℕ
   pub items : List Item
@@ -20,7 +20,7 @@ abbrev pub is_action : Item → Bool
 is_action (Action id) = true
 is_action _ = false
 
--- Whether the last item ends an action. If there is no item, the flag `before` says so.
+-- Whether the last item ends an action. If there are no items, the result is the flag `before`.
 abbrev pub last_is_action : Bool → List Item → Bool
 last_is_action before [] = before
 last_is_action before (x ∷ xs) = last_is_action (is_action x) xs

@@ -159,7 +159,7 @@ fn put_topology(draft: &mut Draft, items: &[Item]) -> bool
     is_empty
 }
 
-/// Appends the entries of an action in braces, or nothing if there are none.
+/// Appends the entries of an action in braces, or nothing if the action has no entries.
 fn put_entries(draft: &mut Draft, items: &[Item])
     ensures value { draft.new ≡ drafted draft.old (grouped (entries_of items.now)) }
 {

@@ -49,7 +49,7 @@ fn put_remote(draft: &mut Draft, chosen: &Chosen)
     draft.put(b"}");
 }
 
-/// Appends a comma and a Local, if there is one.
+/// If the Local was set, appends a comma and the Local.
 #[tactic(auto, using(crate::proofs::DraftLemmas::joins), unfolding(crate::specs::Listed::listed))]
 fn put_next_local(draft: &mut Draft, local: Option<Chosen>)
     ensures value { draft.new ≡ drafted draft.old (listed (codes ",") (optional local_text local)) }
@@ -63,7 +63,7 @@ fn put_next_local(draft: &mut Draft, local: Option<Chosen>)
     }
 }
 
-/// Appends a comma and a Remote, if there is one.
+/// If the Remote was set, appends a comma and the Remote.
 #[tactic(auto, using(crate::proofs::DraftLemmas::joins), unfolding(crate::specs::Listed::listed))]
 fn put_next_remote(draft: &mut Draft, remote: Option<Chosen>)
     ensures value { draft.new ≡ drafted draft.old (listed (codes ",") (optional remote_text remote)) }
@@ -132,7 +132,7 @@ fn put_statistics(draft: &mut Draft, statistics: Stats)
     draft.put(b"}");
 }
 
-/// Appends the parts of a command's outcome in braces, or nothing if there are none.
+/// Appends the parts of a command's outcome in braces, or nothing if the outcome has no parts.
 #[tactic(auto, using(crate::proofs::DraftLemmas::joins), unfolding(crate::specs::Listed::listed))]
 pub(crate) fn put_parts(draft: &mut Draft, parts: Parts)
     ensures value { draft.new ≡ drafted draft.old (grouped (reported_parts parts)) }

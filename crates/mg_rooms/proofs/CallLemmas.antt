@@ -82,7 +82,8 @@ place_none a kept found =
 
 -- ## Writes
 
--- The table of terminations by slot, and the table of contexts by room.
+-- These predicates describe a table of terminations by slot, and a table of contexts by room. The functions replace the
+-- terminations or the contexts of a registry.
 abbrev pub AreSlots : ℕ → ℕ → List (Option Record) → Type 0
 AreSlots next size t = IsTable (λ r. r.number) (λ r. r.slot) next size t
 
@@ -95,7 +96,8 @@ with_terminations w rs = record w { terminations = rs }
 abbrev pub with_contexts : Registry → List Context → Registry
 with_contexts w xs = record w { contexts = xs }
 
--- The registry with one more termination, or with one more context.
+-- These functions replace the terminations or the contexts of a registry after one of them is created, and increase the
+-- next number.
 abbrev pub with_more : Registry → List Record → Registry
 with_more w rs = record w { terminations = rs; next_termination = w.next_termination + 1 }
 
@@ -126,7 +128,7 @@ pub room_is_empty : (a : Inside) (s : ℕ) → HasTables a → free_room (regist
 room_is_empty a s kept free = empty_place (λ x. x.number) (λ x. x.room) a.next_context CONTEXTS a.rooms.items s
     kept.rooms free
 
--- Overwriting or removing the entry of a termination replaces or removes the termination.
+-- These lemmas are about overwriting or removing the entry of a termination, which replaces or removes the termination.
 pub replaced_there : (a : Inside) (r : Record) (s : ℕ) → HasTables a →
     Some s ≡ position_from (has_key (λ x. x.number) r.number) 0 a.slots.items →
     IfSome (record_at (registry_of a) r.number) (λ x. x.slot ≡ r.slot)
@@ -186,7 +188,8 @@ left_and_then : (n : ℕ) (o : Option Context) →
 left_and_then n None = refl
 left_and_then n (Some x) = refl
 
--- Changing the entry of a room without changing its number and room, or removing the entry, changes the context.
+-- If f changes the entry of a room but keeps its number and room, or removes the entry, the context changes in the same
+-- way.
 context_change : (a : Inside) (n s : ℕ) (f : Context → Option Context) (old new : Option Context) →
     ((x : Context) → IfSome (f x) (λ y. (y.number ≡ x.number) × (y.room ≡ x.room))) → HasTables a →
     Some s ≡ position_from (has_key (λ x. x.number) n) 0 a.rooms.items → old ≡ get_or a.rooms.items s old →
@@ -220,7 +223,7 @@ left_there a c n s old new kept found was is =
     context_change a c s (λ x. with_members x (without n x.members)) old new
     (λ x. keeps_left x (without n x.members)) kept found was (is ∙ left_and_then n old)
 
--- A context that may be entered exists and is not full.
+-- If the context c of the registry is not full, neither is the context in the entry that was found for c.
 pub may_enter : (a : Inside) (c s : ℕ) (o : Option Context) →
     Some s ≡ position_from (has_key (λ x. x.number) c) 0 a.rooms.items → o ≡ get_or a.rooms.items s o →
     length (members_of (context_at (registry_of a) c)) < MEMBERS → IfSome o (λ x. length x.members < MEMBERS)

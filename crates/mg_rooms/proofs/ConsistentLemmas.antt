@@ -155,7 +155,7 @@ start_sound limits last h = record {
   last_context = let few = h.1.few_contexts in omega arith;
 }
 
--- The context of a termination has a number below the next one.
+-- The number of a termination's context is below the next context number.
 pub existing_context : (w : Registry) (n : ℕ) (r : Record) → IsConsistent w → record_at w n ≡ Some r →
     r.context < w.next_context
 existing_context w n r h found =
@@ -281,7 +281,7 @@ add_sound w after target d h a =
     (rw has.slot unheld) (rw (has.context, has.seat) unseated))
     (record { same = agree.same; as_many = agree.as_many }) (omega arith) (omega arith))
 
--- A termination that enters another context takes a free seat.
+-- If a termination moves to a free seat, no two terminations have the same seat afterwards.
 moved_seat : (rs : List Record) (place : EntryPlace) (old r : Record) →
     ((c seat : ℕ) → count_by (λ x. (x.context == c) && (x.seat == seat)) rs ≤ 1) →
     count_by (λ x. (x.context == place.context) && (x.seat == place.seat)) rs ≡ 0 →

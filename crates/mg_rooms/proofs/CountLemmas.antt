@@ -62,7 +62,7 @@ module _ {A : Type 0} where
   count-at p (x ∷ xs) zero d lt e = let step = count-cons p x xs in let first = one-true (p x) e in omega arith
   count-at p (x ∷ xs) (suc i) d lt e = grind (arith, count-cons p x xs, count-at p xs i d)
 
-  -- The only item that passes the test is found at any index.
+  -- If the item at an index passes the test and no other item does, a search finds this item.
   pub find-at : (p : A → Bool) (xs : List A) (i : ℕ) (d : A) → i < length xs → p (get_or xs i d) ≡ true →
       count_by p xs ≤ 1 → find p xs ≡ Some (get_or xs i d)
   find-at p [] i d lt e one_only = absurd (omega arith)
@@ -81,7 +81,7 @@ module _ {A : Type 0} where
   find-none p [] h = refl
   find-none p (x ∷ xs) h = grind (arith, count-cons p x xs, find-none p xs)
 
-  -- Two items that are found and pass a test that at most one item passes are the same item.
+  -- If two items that are found pass a test, and at most one item of the list passes it, the two are the same item.
   pub same_found : (p q r : A → Bool) (xs : List A) (x y : A) → find q xs ≡ Some x → find r xs ≡ Some y → p x ≡ true →
       p y ≡ true → count_by p xs ≤ 1 → x ≡ y
   same_found p q r [] x y fx fy px py few = absurd (cc)

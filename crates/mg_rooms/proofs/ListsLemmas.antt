@@ -31,7 +31,7 @@ terminations-push limits next rs r h is number slot seat = record {
       grind (arith, nat_tests, eqb-true r.context c, eqb-true r.seat s, seat, h.one_seat c s);
 }
 
--- The terminations remain valid when a termination changes without taking a seat that another one holds.
+-- The terminations remain valid when a termination changes without taking a seat that another termination holds.
 pub terminations-changed : (limits : Limits) (next : ℕ) (rs : List Record) (old r : Record) →
     AreTerminations limits next rs → find (λ x. x.number == r.number) rs ≡ Some old → IsTermination limits next r →
     r.slot ≡ old.slot
@@ -164,7 +164,7 @@ members-made limits next xs x n h number members d = at (find (λ y. y.number ==
 other_than : (c d : ℕ) → (c == d) ≡ true → d ≡ c
 other_than c d e = sym (eqb-true c d e)
 
--- After the context c changes, its members are those that g computes, and other contexts keep their members.
+-- After the context c changes, g computes its members, and other contexts keep their members.
 pub members-changed : (limits : Limits) (next c : ℕ) (f : Context → Option Context) (g : List ℕ → List ℕ)
     (xs : List Context) → AreContexts limits next xs → ((x : Context) → Keeps x (f x)) →
     ((o : Option Context) → IfSome o (λ x. x.number ≡ c) → find (λ x. x.number == c) xs ≡ o →

@@ -95,7 +95,7 @@ abbrev pub HasSeat : Registry → ℕ → ℕ → Option ℕ → Type 0
 HasSeat w c seat None = free_seat w c ≡ Some seat
 HasSeat w c seat (Some room) = seat ≡ 0
 
--- A termination may enter at the place. The place is in the action's context or in a new one.
+-- A termination may enter at the place. The place is in the action's context or in a new context.
 pub record Enters (w : Registry) (target : Target) (place : EntryPlace) : Type 0 where
   pub opens : IsOpen w place.context place.made
   pub free : HasSeat w place.context place.seat place.made
@@ -138,7 +138,7 @@ new_place_ok w (Number d) u place may h =
       other = λ c below no. no;
     })
 
--- ## Commands that are done
+-- ## Successful commands
 
 -- A successful Add: d is the new termination, in a free slot.
 pub record Added (w after : Registry) (target : Target) (d : Record) : Type 0 where

@@ -115,7 +115,7 @@ subtract_ends w after target n r h found is =
       others = others;
     }
 
--- ## What a call gives back
+-- ## The results of calls
 
 pub there_as : (w : Registry) (n : ℕ) (r : Record) (m : Member) → record_at w n ≡ Some r → m.record ≡ r →
     option_map (λ x. x.room) (context_at w r.context) ≡ Some m.room → ExistsAs w n m

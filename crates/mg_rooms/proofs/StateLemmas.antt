@@ -123,7 +123,7 @@ pub room_is_free : (w : Registry) → IsConsistent w → length w.contexts < CON
 room_is_free w h few = seat_left (λ _. true) (λ x. x.room) CONTEXTS w.contexts
     (let all = all_counted (λ (_ : Context). true) w.contexts (λ x. refl) in omega arith)
 
--- ## What is used up
+-- ## Exhausted resources
 
 pub slot_used_up : (w : Registry) → (new_slot w ≡ Err NoTerminationLeft) ↔
     ((free_slot w ≡ None) ⊎ (LAST_TERMINATION < w.next_termination))

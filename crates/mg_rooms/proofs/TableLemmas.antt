@@ -68,7 +68,7 @@ module _ {A : Type 0} (key spot : A → ℕ) where
   find-place_only p x [] e none = rw e refl
   find-place_only p x (y ∷ ys) e none = grind (arith, find-place_only p x ys e)
 
-  -- No entry names an index below the first one.
+  -- No entry names an index below the first index.
   find_later : (t : List (Option A)) (k n : ℕ) → ((i : ℕ) (x : A) → slice_get t i ≡ Some (Some x) → spot x ≡ i + k) →
       n < k → find (λ x. spot x == n) (in_order key t) ≡ None
   find_later [] k n h lt = refl
@@ -124,7 +124,7 @@ module _ {A : Type 0} (key spot : A → ℕ) where
   free-in_order next size t h =
       grind (arith, free_from (λ s. list_any (λ x. spot x == s) (in_order key t)) 0 t, held-in_order next size t)
 
-  -- The lowest index that no item names is an empty entry.
+  -- The entry at the lowest index that no item names is empty.
   pub empty_place : (next size : ℕ) (t : List (Option A)) (s : ℕ) → IsTable key spot next size t →
       find (λ m. not (list_any (λ x. spot x == m) (in_order key t))) (range_with_len 0 size) ≡ Some s →
       (slice_get t s ≡ Some None) × (s < length t)
@@ -152,7 +152,7 @@ module _ {A : Type 0} (key spot : A → ℕ) where
       None ≡ find (λ x. key x == n) (in_order key t)
   lookup_none n t found = sym (find-in_order_none key n 0 t (sym found))
 
-  -- Changing an entry without changing its key and index, or removing it, keeps the table valid.
+  -- A table stays valid when an entry is removed, or changes but keeps its key and index.
   pub table_change : (next size : ℕ) (t : List (Option A)) (n s : ℕ) (f : A → Option A) → KeepsKey key n f →
       ((x : A) → find (λ y. key y == n) (in_order key t) ≡ Some x → IfSome (f x) (λ y. spot y ≡ spot x)) →
       IsTable key spot next size t → Some s ≡ position_from (has_key key n) 0 t →

@@ -9,7 +9,7 @@ use Rattle.mg_words.specs.Limits.{least_depth, greatest_depth}
 use Rattle.mg_words.specs.Limits.{context_limit, member_limit, last_termination, last_context}
 use Rattle.mg_rooms.specs.Registry.{Registry, members_at}
 
--- The fields of a termination are within the limits, and its number is below the next one.
+-- The fields of a termination are within the limits, and its number is below the next termination number.
 pub record IsTermination (limits : Limits) (next : ℕ) (r : Record) : Type 0 where
   pub from : limits.first_termination ≤ r.number
   pub below : r.number < next
@@ -27,7 +27,7 @@ pub record AreTerminations (limits : Limits) (next : ℕ) (rs : List Record) : T
   pub one_slot : (slot : ℕ) → count_by (λ r. r.slot == slot) rs ≤ 1
   pub one_seat : (c seat : ℕ) → count_by (λ r. (r.context == c) && (r.seat == seat)) rs ≤ 1
 
--- The fields of a context are within the limits, and its number is below the next one.
+-- The fields of a context are within the limits, and its number is below the next context number.
 pub record IsContext (limits : Limits) (next : ℕ) (x : Context) : Type 0 where
   pub from : limits.first_context ≤ x.number
   pub below : x.number < next

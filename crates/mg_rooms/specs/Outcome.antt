@@ -1,8 +1,7 @@
--- The outcome of a command on one termination (RFC 3525, sections 7.2.1 to 7.2.4). It is the error
--- of the first check that fails or, if none fails, the termination and the registry after the
--- command. The termination has its new record, or the old one if it was subtracted. The order of
--- the checks is this project's own: the termination, the action's context, exhausted resources, the
--- media.
+-- The outcome of a command on one termination (RFC 3525, sections 7.2.1 to 7.2.4). It is the error of the first check
+-- that fails or, if none fails, the termination and the registry after the command. The termination has its new record,
+-- or the old record if it was subtracted. The order of the checks is this project's own: the termination, the action's
+-- context, exhausted resources, the media.
 use Rattle.std.specs.Prelude.{ℕ, Bool, false, not, ◌&&◌, length, Some, None, Result, Ok, Err}
 use Rattle.std.specs.Prelude.{◌==◌, nat_lt, nat_le, ok_or}
 use Rattle.mg_rooms.specs.declared.record.Record.{Record}
@@ -29,7 +28,7 @@ named w n = ok_or (record_at w n) refusals.UnknownTermination
 abbrev pub there : Registry → ℕ → Result (Unit {0}) ErrorNumber
 there w c = elim (context_at w c) [ Some x ↦ Ok tt | None ↦ Err refusals.UnknownContext ]
 
--- The check that a termination may enter the action's context: the context must exist or be a new one.
+-- The check that a termination may enter the action's context: the context must exist or be new.
 abbrev pub may_enter : Registry → Target → Result (Unit {0}) ErrorNumber
 may_enter w targets.Null = Err refusals.UnknownContext
 may_enter w targets.New = Ok tt
@@ -46,7 +45,7 @@ abbrev pub is_number : Target → ℕ → Bool
 is_number (targets.Number c) n = c == n
 is_number _ n = false
 
--- A member of the action's context.
+-- The member of the action's context with this number, or an error.
 abbrev pub member : Registry → Target → ℕ → Result Record ErrorNumber
 member w target n = do
   r ← named w n
@@ -56,20 +55,20 @@ member w target n = do
 
 -- ## Resources that may be exhausted
 
--- A slot for a new termination.
+-- A slot for a new termination, or an error.
 abbrev pub new_slot : Registry → Result ℕ ErrorNumber
 new_slot w = do
   _ ← passes (nat_le w.next_termination last_termination) refusals.NoTerminationLeft
   ok_or (free_slot w) refusals.NoTerminationLeft
 
--- A seat in a context that exists. A seat is free if the context is not full.
+-- A seat in a context that exists, or an error. A seat is free if the context is not full.
 abbrev pub new_seat : Registry → ℕ → Result EntryPlace ErrorNumber
 new_seat w c = do
   _ ← passes (nat_lt (length (members_at w c)) member_limit) refusals.ContextFull
   seat ← ok_or (free_seat w c) refusals.ContextFull
   Ok (record { context = c; seat = seat; made = None })
 
--- The first seat of a new context. A room is free if the limit on contexts is not reached.
+-- The first seat of a new context, or an error. A room is free if the limit on contexts is not reached.
 abbrev pub new_context : Registry → Result EntryPlace ErrorNumber
 new_context w = do
   _ ← passes (nat_lt (length w.contexts) context_limit && nat_le w.next_context last_context)
@@ -77,7 +76,7 @@ new_context w = do
   room ← ok_or (free_room w) refusals.NoContextLeft
   Ok (record { context = w.next_context; seat = 0; made = Some room })
 
--- The place where a termination enters the action's context.
+-- The place where a termination enters the action's context, or an error.
 abbrev pub new_place : Registry → Target → Result EntryPlace ErrorNumber
 new_place w targets.Null = Err refusals.UnknownContext
 new_place w targets.New = new_context w

@@ -68,7 +68,7 @@ impl Tables {
         }
     }
 
-    /// Returns a member of the action's context, or the error if the termination isn't one.
+    /// Returns a member of the action's context, or an error if the termination isn't a member.
     pub(crate) fn member(&self, target: Target, number: u32) -> Result<Record, ErrorNumber>
         ensures value { result ≡ member self.now target number }
         ensures there { IfOk result (λ r. record_at self.now r.number ≡ Some r) }
@@ -126,7 +126,7 @@ impl Tables {
         }
     }
 
-    /// Returns the place where a termination enters the action's context, or the error if it can't enter.
+    /// Returns the place where a termination enters the action's context, or an error if the termination can't enter.
     pub(crate) fn new_place(&self, target: Target) -> Result<EntryPlace, ErrorNumber>
         ensures value { result ≡ new_place self.now target }
         ensures can { IfOk result (CanEnter self.now) }
@@ -138,7 +138,7 @@ impl Tables {
         }
     }
 
-    /// Returns a termination with a command's settings applied, or the error if the Local or Remote is not acceptable.
+    /// Returns a termination with a command's settings applied, or an error if the Local or Remote is not acceptable.
     pub(crate) fn with_settings(
         &self,
         settings: &Settings,

@@ -116,7 +116,7 @@ impl Rooms {
         Some(record.number)
     }
 
-    /// Returns a member of the action's context, or the error if the termination isn't one.
+    /// Returns a member of the action's context, or an error if the termination isn't a member.
     pub fn find(&self, target: Target, number: u32) -> Result<Record, ErrorNumber>
         ensures value { result ≡ member self.now target number }
     {

@@ -77,7 +77,8 @@ impl Settings {
     }
 }
 
-/// Returns the choice from a Local's alternatives, if there are any. Fails if none of them is acceptable.
+/// Returns the choice from a Local's alternatives, or `None` if it has no alternatives. Fails if no alternative is
+/// acceptable.
 #[tactic(auto, using(crate::proofs::SettingsLemmas::rules))]
 fn chosen_local(
     sessions: &Sessions,
@@ -93,7 +94,8 @@ fn chosen_local(
     Ok(Some(chosen))
 }
 
-/// Returns the choice from a Remote's alternatives, if there are any. Fails if none of them is acceptable.
+/// Returns the choice from a Remote's alternatives, or `None` if it has no alternatives. Fails if no alternative is
+/// acceptable.
 #[tactic(auto, using(crate::proofs::SettingsLemmas::rules))]
 fn chosen_remote(sessions: &Sessions) -> Result<Option<Chosen>, ErrorNumber>
     ensures value { result ≡ offered remote_choice sessions.now }

@@ -131,7 +131,7 @@ enough_sources bytes a l h sources rest b are =
     let counts = ap (λ (l : Layout). l.source_count) front.0 in
     omega (arith, a.few, ap length front.2, length-append sources rest, are, counts)
 
--- Bytes that hold the extension, if there is one, do not end within the extension.
+-- Bytes that hold the whole extension do not end within it.
 whole_extension : (bytes : List ℕ) (a : LacksExtension bytes) (l : Layout) (h : Header)
     (sources extension rest : List ℕ) → Begins bytes l h (sources ++ (extension ++ rest)) →
     AreSources l.source_count sources → IsExtension l.is_extended extension → ⊥

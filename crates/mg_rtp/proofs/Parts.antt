@@ -25,7 +25,7 @@ pub twelve : (head : List ℕ) → length head ≡ 12 →
     get_or head 6 0 ∷ get_or head 7 0 ∷ get_or head 8 0 ∷ get_or head 9 0 ∷ get_or head 10 0 ∷ get_or head 11 0 ∷ []
 twelve head len = fill_by_all (λ i. get_or head i 0) head 12 0 len (λ k h. refl)
 
--- A number that is read from bytes has these bytes.
+-- If a number is computed from bytes, its bytes in big-endian order are those bytes.
 pub bytes_of_2 : (a b n : ℕ) → a < 256 → b < 256 → n ≡ a * 256 + b → big_bytes 2 n ≡ a ∷ b ∷ []
 bytes_of_2 a b n p q e =
     let high : n / 256 % 256 ≡ a = omega arith in
@@ -41,7 +41,7 @@ bytes_of_4 a b c d n p q r s e =
     let fourth : n % 256 ≡ d = omega arith in
     cc
 
--- A number that is read from index j on, computed from its bytes.
+-- A number that is read from index j on is computed from the bytes there.
 pub number_at_2 : (xs : List ℕ) (j n : ℕ) → n ≡ big_number 2 (take (length xs - j) (drop j xs)) →
     n ≡ get_or xs j 0 * 256 + get_or xs (j + 1) 0
 number_at_2 xs j n e =
@@ -58,7 +58,7 @@ number_at_4 xs j n e =
     ap (λ (i : ℕ). get_or xs i 0) (add-zero j) in
     omega (arith, read, here, get_or-drop j xs 1 0, get_or-drop j xs 2 0, get_or-drop j xs 3 0)
 
--- The bytes of a number that is read from index j on.
+-- The bytes of a number that is read from index j on are the bytes there.
 pub bytes_at_2 : (xs : List ℕ) (j n : ℕ) → IsBytes xs → n ≡ big_number 2 (take (length xs - j) (drop j xs)) →
     big_bytes 2 n ≡ get_or xs j 0 ∷ get_or xs (j + 1) 0 ∷ []
 bytes_at_2 xs j n fits e = bytes_of_2 _ _ n (fits j) (fits (j + 1)) (number_at_2 xs j n e)
@@ -87,7 +87,7 @@ first_byte-layout_of first lt version =
 few_sources : (first : ℕ) → bit_and first 15 < 16
 few_sources first = omega (arith, and_le_r first 15)
 
--- The marker and the payload type of a byte form that byte again.
+-- The marker and the payload type of a second byte form that byte again.
 pub second_of : (second : ℕ) → second < 256 → bit (not (eqb (bit_and second 128) 0)) * 128 + bit_and second 127 ≡ second
 second_of second lt =
     let all = agree_below_at (λ b. eqb (bit (not (eqb (bit_and b 128) 0)) * 128 + bit_and b 127) b) (λ b. true) 256
@@ -116,7 +116,7 @@ pub begins_with : (bytes : List ℕ) (l : Layout) (h : Header) (rest parts : Lis
     Begins bytes l h rest → Begins bytes l h parts
 begins_with bytes l h rest parts e b = subst (λ (x : List ℕ). Begins bytes l h x) e b
 
--- A header without optional parts and a payload form a packet.
+-- A header without optional parts, followed by a payload, is a packet.
 pub plain_packet : (bytes : List ℕ) (h : Header) (payload : List ℕ) → IsHeader h →
     bytes ≡ header_bytes plain h ++ payload → IsPacket bytes h payload
 plain_packet bytes h payload in_range e = record {
@@ -136,7 +136,7 @@ plain_packet bytes h payload in_range e = record {
 
 -- ---- extensions
 
--- Bytes with a valid word count start with an extension, given their first four bytes.
+-- If the first four bytes have a valid word count, the bytes start with an extension.
 words_behind : (a b c d : ℕ) (xs : List ℕ) (n : ℕ) → c < 256 → d < 256 → 4 + 4 * n ≤ 4 + length xs → n ≡ c * 256 + d →
     CountsWords (take (4 + 4 * n) (a ∷ b ∷ c ∷ d ∷ xs))
 words_behind a b c d xs n p q long e =

@@ -27,17 +27,17 @@ pub record CountsWords (bytes : List ℕ) : Type 0 where
   pub in_range : count < 2 ^ 16
   pub all_words : length words ≡ 4 * count
 
--- The bytes are the header extension, or empty if there is none.
+-- The bytes are the header extension. They are empty if the packet has no extension.
 abbrev pub IsExtension : Bool → List ℕ → Type 0
 IsExtension false bytes = bytes ≡ []
 IsExtension true bytes = CountsWords bytes
 
--- The bytes are padding: the last byte is the number of bytes, and the others have any value.
+-- The bytes are padding: the last byte is the number of padding bytes, and the other bytes have any value.
 pub record CountsItself (bytes : List ℕ) : Type 0 where
   pub filler : List ℕ
   pub joined : bytes ≡ filler ++ (length filler + 1) ∷ []
 
--- The bytes are the padding, or empty if there is none.
+-- The bytes are the padding. They are empty if the packet has no padding.
 abbrev pub IsPadding : Bool → List ℕ → Type 0
 IsPadding false bytes = bytes ≡ []
 IsPadding true bytes = CountsItself bytes

@@ -20,7 +20,7 @@ HasBadPadding rest =
     let count = slice_index rest (length rest - 1) in
     (rest ≡ []) ⊎ (count ≡ 0) ⊎ (length rest < count)
 
--- The rest, after these sources and this extension, does not start with the next part, because of this fault.
+-- After these sources and this extension, the rest does not start with the next part, because of this fault.
 abbrev pub IsFaultyPart : Layout → (sources extension rest : List ℕ) → RtpFault → Type 0
 IsFaultyPart layout sources extension rest Short =
     (sources ≡ []) × (extension ≡ []) × (length rest < 4 * layout.source_count)

@@ -81,7 +81,7 @@ fn without_sources(rest: &[u8], count: u8) -> Result<&[u8], RtpFault>
     Ok(&rest[len..])
 }
 
-/// Skips the header extension, if there is one.
+/// Skips the header extension if the packet has one.
 fn without_extension(rest: &[u8], extended: bool) -> Result<&[u8], RtpFault>
     ensures ok { IfOk result (λ after. (extension : List ℕ) × IsExtension extended extension
         × (rest.now ≡ extension ++ after.now)) }
@@ -102,7 +102,7 @@ fn without_extension(rest: &[u8], extended: bool) -> Result<&[u8], RtpFault>
     Ok(&rest[len..])
 }
 
-/// Removes the padding, if there is any.
+/// Removes the padding if the packet has any.
 fn without_padding(rest: &[u8], padded: bool) -> Result<&[u8], RtpFault>
     ensures ok { IfOk result (λ payload. (padding : List ℕ) × IsPadding padded padding
         × (rest.now ≡ payload.now ++ padding)) }

@@ -6,7 +6,7 @@ use Rattle.memchr.specs.Find.{IsFirstByte, is_byte}
 use Rattle.std.specs.Option.{option_map}
 use Rattle.mg_scan.specs.Tokens.{content_len}
 
--- A position in the rest of a text, as a position in the whole text: `i` bytes further on.
+-- Converts a position in the rest of a source to a position in the whole source, by adding `i`.
 abbrev pub moved : ℕ → Option ℕ → Option ℕ
 moved i o = option_map (λ n. i + n) o
 
@@ -14,12 +14,13 @@ moved-suc : (i j : ℕ) (o : Option ℕ) → j ≡ 1 + i → option_map (λ n. 1
 moved-suc i j None e = refl
 moved-suc i j (Some n) e = let s : 1 + (i + n) ≡ j + n = omega arith in ap (λ (k : ℕ). Some k) s
 
--- Whether the byte before position n is a backslash. The flag says so for the byte before the list.
+-- Whether the byte before position n is a backslash. For position 0, the flag says whether the byte before the list is
+-- a backslash.
 abbrev pub escaped_at : Bool → List ℕ → ℕ → Bool
 escaped_at escaped bs zero = escaped
 escaped_at escaped bs (suc n) = get_or bs n 0 == 92
 
--- The length of the content at a brace: the content ends there, or continues if the brace is escaped.
+-- The length of content that has a brace at position n. The content ends there, or continues if the brace is escaped.
 abbrev pub at_brace : Bool → List ℕ → ℕ → Option ℕ
 at_brace false bs n = Some n
 at_brace true bs n = moved (n + 1) (content_len false (drop (n + 1) bs))
@@ -44,7 +45,7 @@ here true b bs e ne = rw (e, ne) refl
 no_backslash : (b : ℕ) → (b == 125) ≡ true → (b == 92) ≡ false
 no_backslash b e = rw (eqb-true b 125 e) refl
 
--- The length of the content follows from the first brace in the bytes.
+-- If the first brace in the bytes is at position n, the length of the content is `at_brace` of n.
 pub first_brace : (escaped : Bool) (bs : List ℕ) (n : ℕ) → n < length bs →
     ((k : ℕ) → k < n → (get_or bs k 0 == 125) ≡ false) → (get_or bs n 0 == 125) ≡ true →
     content_len escaped bs ≡ at_brace (escaped_at escaped bs n) bs n

@@ -1,4 +1,4 @@
--- A text consists of white space, its first token, and the rest.
+-- Bytes with a token consist of white space, their first token, and the rest.
 use Rattle.std.proofs.Common.{◌≡◌, ℕ, ◌+◌, suc, Bool, true, false, not, ◌==◌, ◌&&◌, ◌||◌, cond, eqb, List, [], ◌∷◌, ◌++◌, take, drop, Option, Some, None, Ok, refl, inl, inr, ◌⊎◌, sym, ap, subst, ◌∙◌, append_assoc, arith}
 use Rattle.std.proofs.lemmas.Bool.{eqb-true, and_parts}
 use Rattle.std.proofs.lemmas.List.{take-append-drop}
@@ -19,7 +19,7 @@ chosen false x y z e = inr (refl, e)
 abbrev HasFront : Bool → List ℕ → List ℕ → Type 0
 HasFront inside bs rest = (white : List ℕ) × IsWhite inside white × (bs ≡ white ++ rest)
 
--- If the white space can be extended by a byte at the front, the bytes can be extended too.
+-- A byte that can be put in front of the white space can also be put in front of the bytes.
 grown : (was inside : Bool) (b : ℕ) (bs rest : List ℕ) →
     ((white : List ℕ) → IsWhite inside white → IsWhite was (b ∷ white)) → HasFront inside bs rest →
     HasFront was (b ∷ bs) rest
@@ -106,7 +106,7 @@ token_joins (b ∷ bs) x e =
       ]
     ]
 
--- Lemmas to show that a closing brace follows a session description.
+-- These lemmas show that a closing brace follows a session description.
 some_is : (o : Option ℕ) (n : ℕ) → option_map (λ k. 1 + k) o ≡ Some n → (k : ℕ) × (o ≡ Some k) × (n ≡ 1 + k)
 some_is None n e = absurd cc
 some_is (Some k) n e = (k, refl, cc)

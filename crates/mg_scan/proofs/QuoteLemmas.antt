@@ -1,4 +1,4 @@
--- The mark or line end at which a quoted text ends.
+-- The quotation mark or line end at which quoted text ends.
 use Rattle.std.proofs.Common.{◌≡◌, ℕ, ◌+◌, ◌-◌, ◌<◌, ◌≢◌, List, length, get_or, take, drop, Some, None, Err, refl, ap, ◌∙◌, arith, length-drop}
 use Rattle.std.proofs.lemmas.List.{drop-drop, drop_more, drop_all}
 use Rattle.std.proofs.lemmas.List.Sums.{position_or_len_is}

@@ -16,8 +16,8 @@ pub record Scanning : Type 0 where
 abbrev pub rest_of : Scanning → List ℕ
 rest_of s = drop s.at s.source
 
--- A token lies between the old position and the new one, and is the first token of the rest. Its
--- text is the part of the source that its span names.
+-- A token lies between the old position and the new one, and is the first token of the rest. Its text is the part of
+-- the source that its span covers.
 pub record IsNext (old : Scanning) (token : Token) (new : Scanning) : Type 0 where
   pub start : old.at ≤ token.span.start
   pub span : token.span.start ≤ token.span.end

@@ -17,11 +17,11 @@ use Rattle.mg_scan.specs.declared.fault.ScanFault.TheVariants.{BadByte, OpenQuot
 abbrev pub is_blank : ℕ → Bool
 is_blank b = b == 32 || b == 9 || is_line_end b
 
--- Whether a byte ends a quoted text, properly or not.
+-- Whether a byte ends quoted text. A quotation mark closes the text; part of a line end is a fault.
 abbrev pub is_quote_end : ℕ → Bool
 is_quote_end b = b == 34 || b == 13 || b == 10
 
--- The bytes after white space, which may start inside a comment.
+-- The bytes after the white space at the front. The flag says whether the list starts inside a comment.
 unfoldable pub after_white : Bool → List ℕ → List ℕ
 after_white inside [] = []
 after_white inside (b ∷ bs) =
@@ -45,7 +45,7 @@ abbrev pub token_and_rest : TokenKind → List ℕ → List ℕ → Option (Resu
 token_and_rest kind text rest =
     Some (Ok (record { piece = record { kind = kind; text = text }; rest = rest }))
 
--- A quoted text and the bytes after it, if the quote is closed.
+-- The quoted text and the bytes after it, or a fault if no quotation mark closes the text.
 abbrev pub closed_at : List ℕ → List ℕ → Option (Result TokenAndRest ScanFault)
 closed_at text [] = Some (Err OpenQuote)
 closed_at text (b ∷ bs) = if b == 34 then token_and_rest Quoted text bs else Some (Err OpenQuote)
@@ -67,8 +67,8 @@ token_at (b ∷ bs) =
     else (if b == 34 then quoted_at bs
     else Some (Err BadByte))))))
 
--- The number of bytes before the brace that closes a session description: the first one without a
--- backslash before it. The flag says whether the byte before the list is a backslash.
+-- The number of bytes before the brace that closes a session description, which is the first brace without a backslash
+-- in front of it. The flag says whether the byte before the list is a backslash.
 unfoldable pub content_len : Bool → List ℕ → Option ℕ
 content_len escaped [] = None
 content_len escaped (b ∷ bs) =
@@ -78,7 +78,8 @@ content_len escaped (b ∷ bs) =
 abbrev pub has_null : List ℕ → Bool
 has_null bs = list_any (λ b. b == 0) bs
 
--- The session description of this many bytes, if it is closed.
+-- The session description of this length, or a fault. It is a fault if no brace closes the description (`None`) or if a
+-- byte is 0.
 abbrev pub octets_closed : List ℕ → Option ℕ → Option (Result TokenAndRest ScanFault)
 octets_closed bs None = if has_null bs then Some (Err BadByte) else Some (Err OpenOctets)
 octets_closed bs (Some n) =

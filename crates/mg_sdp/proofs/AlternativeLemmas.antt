@@ -1,4 +1,4 @@
--- The alternative that results from reading lines one by one offers what the definitions say.
+-- Reading lines one by one results in an alternative that offers what the definitions say.
 use Rattle.std.proofs.Common.{◌≡◌, ℕ, Bool, true, false, ◌&&◌, cond, eqb, List, [], ◌∷◌, ◌++◌, Option, Some, None, refl, ap}
 use Rattle.std.proofs.lemmas.List.{append-nil}
 use Rattle.std.proofs.lemmas.List.Elements.{filter_map-append}
@@ -43,7 +43,7 @@ pub state_of-nil : state_of [] ≡ no_lines
 unfolding state_of
 state_of-nil = refl
 
--- The offer of the alternative is the offer of its lines.
+-- These lemmas show that the offer of the alternative is the offer of its lines.
 offer_given : (holds : Bool) (o : Option MediaLine) (address : Option (List ℕ)) →
     offer_at holds (part_of o) address ≡ (o >>= (λ media. cond holds (Some (offer_with media address)) None))
 offer_given holds None address = refl
@@ -78,7 +78,7 @@ unfolding state_of offer_of
 offer_by-state_of lines = offer_last (list_all is_served_version (values_of 118 lines) && list_all is_served_attribute
     (values_of 97 lines)) (values_of 109 lines) (last_or None (values_of 99 lines))
 
--- Reading one more line adds its value to the values of its letter.
+-- These lemmas are about reading one more line: its value is added to the values of its letter.
 and_version : (a b c : Bool) → ((a && b) && c) ≡ ((a && (c && true)) && b)
 and_version true true true = refl
 and_version true true false = refl

@@ -18,7 +18,7 @@ unfolding fields_of
 blank_step b text true e h = rw (e, one_more (prefix_len is_space_or_tab text)) h
 blank_step b text false e h = rw e (rw e refl)
 
--- Skipping the blanks at the start of a text does not change its fields.
+-- Skipping the blanks at the start of text does not change the fields.
 pub fields_after : (text : List ℕ) → fields_of (drop (prefix_len is_space_or_tab text) text) ≡ fields_of text
 fields_after [] = refl
 fields_after (b ∷ text) = blank_step b text (is_space_or_tab b) refl (fields_after text)
@@ -42,7 +42,7 @@ pub fields_none : fields_of [] ≡ []
 unfolding fields_of
 fields_none = refl
 
--- If the rest has more than blanks, its first field ends at the next blank.
+-- If the rest isn't all blanks, its first field ends at the first blank after the leading ones.
 pub next_field : (rest text : List ℕ) → text ≡ drop (prefix_len is_space_or_tab rest) rest → 0 < length text →
     fields_of rest ≡ front text ∷ fields_of (after text)
 next_field rest text same some = sym (fields_after rest) ∙ ap fields_of (sym same) ∙ after_blanks rest text same some

@@ -9,7 +9,7 @@ use Rattle.std.specs.List.{list_all, flat_map, AllByRecursion}
 use Rattle.mg_sdp.specs.Alternatives.{is_version, IsAlternative, BeginsWithVersion, AreAlternatives}
 use Rattle.mg_sdp.specs.Sessions.{one_alternative, alternatives_after}
 
--- The alternatives that `alternatives_after` computes are alternatives of the lines.
+-- These lemmas show that `alternatives_after` computes alternatives of the lines.
 joined_closing : (current : List (List ℕ)) → flat_map (λ ls. ls) (one_alternative current) ≡ current
 joined_closing [] = refl
 joined_closing (line ∷ lines) = append-nil (line ∷ lines)
@@ -64,7 +64,7 @@ each : (lines current : List (List ℕ)) → IsBegun current →
 each [] current h = rw (← append-nil (one_alternative current)) (each_closing current [] h tt)
 each (line ∷ lines) current h = each_step current line lines (is_version line) refl h (each lines)
 
--- If the first alternative starts with a v= line, so do all others.
+-- By these lemmas, if the first alternative starts with a v= line, so do all the other alternatives.
 begin_step : (first : List ℕ) (rest : List (List ℕ)) (line : List ℕ) (lines : List (List ℕ)) (version : Bool) →
     is_version line ≡ version → IsTrue (is_version first)
     → ((first' : List ℕ) (rest' : List (List ℕ)) → IsTrue (is_version first') →
@@ -103,7 +103,8 @@ later (line ∷ lines) current = later_step current line lines (is_version line)
 pub are_alternatives : (lines : List (List ℕ)) → AreAlternatives lines (alternatives_after [] lines)
 are_alternatives lines = record { joined = joined lines []; each = each lines [] tt; later = later lines [] }
 
--- The lines have no other alternatives.
+-- The lines of alternatives, in order. By the lemmas below, lines have only the alternatives that `alternatives_after`
+-- computes.
 abbrev join : List (List (List ℕ)) → List (List ℕ)
 join alternatives = flat_map (λ ls. ls) alternatives
 

@@ -1,4 +1,4 @@
--- The lines of a content, split off one by one.
+-- The lines of a descriptor's content, split off one by one.
 use Rattle.std.proofs.Common.{◌≡◌, ℕ, zero, suc, ◌-◌, ◌<◌, Bool, true, false, ◌||◌, cond, List, [], ◌∷◌, length, map, take, drop, refl, sym, ap, ◌∙◌, arith}
 use Rattle.std.specs.List.{prefix_len, position_or_len, suffix_len, slice_split, filter}
 use Rattle.mg_words.specs.LineEnd.{is_line_end}
@@ -35,7 +35,7 @@ white_step b text true e h = rw (e, one_more (prefix_len is_white text))
     (h ∙ sym (skip_step b text (is_line_end b) (is_space_or_tab b) refl refl e))
 white_step b text false e h = rw e refl
 
--- Skipping white space at the start of a text does not change its lines.
+-- Skipping white space at the start of text does not change the lines.
 pub lines_after : (text : List ℕ) → content_lines (drop (prefix_len is_white text) text) ≡ content_lines text
 lines_after [] = refl
 lines_after (b ∷ text) = white_step b text (is_white b) refl (lines_after text)
@@ -56,7 +56,7 @@ end_filled : (x : ℕ) (xs : List ℕ) → is_space_or_tab x ≡ false → is_fi
 end_filled x xs e = taken_filled (length (x ∷ xs) - suffix_len is_space_or_tab (x ∷ xs)) x xs
     (omega (arith, suffix_short is_space_or_tab x xs e))
 
--- The bytes of a text before its first line end.
+-- The bytes before the first line end.
 abbrev pub front : List ℕ → List ℕ
 front text = take (position_or_len is_line_end text) text
 
@@ -102,7 +102,7 @@ pub lines_none : content_lines [] ≡ []
 unfolding content_lines
 lines_none = refl
 
--- If the rest has more than white space, its first line ends at the next line end.
+-- If the rest isn't all white space, its first line ends at the first line end after the leading white space.
 pub next_line : (rest text : List ℕ) → text ≡ drop (prefix_len is_white rest) rest → 0 < length text →
     content_lines rest ≡ trimmed_end (front text) ∷ content_lines (after text)
 next_line rest text same some = sym (lines_after rest) ∙ ap content_lines (sym same) ∙ after_white rest text same some

@@ -1,4 +1,4 @@
--- A session description that the gateway writes reads back as what was chosen.
+-- A session description that the gateway writes reads back as the choice that was written.
 use Rattle.std.proofs.Common.{◌≡◌, ℕ, suc, ◌+◌, ◌-◌, ◌^◌, ◌<◌, ◌≤◌, Bool, true, false, not, eqb, leb, ltb, List, [], ◌∷◌, ◌++◌, length, get_or, drop, Some, Ok, refl, sym, ap, ◌∙◌, subst, append_assoc, length-append, arith, decimal, codes}
 use Rattle.std.proofs.lemmas.List.{reverse-append, append-nil}
 use Rattle.std.proofs.lemmas.Bool.{leb-true, lt-ltb, ne_eqb, and_parts, and_from, not-true, not_from_false}
@@ -36,7 +36,8 @@ split_whole p (x ∷ xs) h =
     let two = and_parts (not (p x)) (list_all (λ b. not (p b)) xs) h in
     rw (not-true (p x) two.0, split_whole p xs two.1) refl
 
--- A line ends at its line end, and the text after it has the other lines.
+-- Whether a byte does not end a line. By the lemmas below, a line ends at its line end, and the text after it has the
+-- other lines.
 abbrev continues : ℕ → Bool
 continues b = not (is_line_end b)
 
@@ -51,7 +52,8 @@ trimmed_whole x front z e f =
     let none : length (x ∷ (front ++ z ∷ [])) - 0 ≡ length (x ∷ (front ++ z ∷ [])) = omega arith in
     rw e (rw (reverse-append (x ∷ front) (z ∷ []), f, none) (take-length (x ∷ (front ++ z ∷ []))))
 
--- A field ends at the first space, and the last field ends with the value.
+-- Whether a byte belongs to a field. By the lemmas below, a field ends at the first space, and the last field ends with
+-- the value.
 abbrev is_ink : ℕ → Bool
 is_ink b = not (is_space_or_tab b)
 
@@ -71,7 +73,8 @@ all_append p (x ∷ xs) ys h k =
     let two = and_parts (p x) (list_all p xs) h in
     and_from (p x) (list_all p (xs ++ ys)) two.0 (all_append p xs ys two.1 k)
 
--- A text whose first part has no dot is cut at the dot after that part.
+-- If y is the first element that satisfies p, its position is the number of elements before it. By the lemmas below,
+-- text whose first part has no dot is split at the dot after that part.
 pub position_seam : (p : ℕ → Bool) (xs : List ℕ) (y : ℕ) (ys : List ℕ) → list_all (λ b. not (p b)) xs ≡ true →
     p y ≡ true → position_or_len p (xs ++ y ∷ ys) ≡ length xs
 position_seam p [] y ys h e = rw e refl
@@ -135,7 +138,7 @@ address_of-dotted a b c d ha hb hc hd =
       part_of-decimal d hd,
     ) refl
 
--- A text that starts with a digit is not `$`.
+-- Text that starts with a digit is not `$`.
 not_dollar : (ds rest : List ℕ) → all_ascii_digits ds ≡ true → 0 < length ds → bytes_eq (ds ++ rest) (codes "$") ≡ false
 not_dollar [] rest h some = absurd (omega arith)
 not_dollar (c ∷ cs) rest h some =
@@ -150,7 +153,7 @@ filled_append : (ds rest : List ℕ) → 0 < length ds → is_filled (ds ++ rest
 filled_append [] rest some = absurd (omega arith)
 filled_append (c ∷ cs) rest some = refl
 
--- The fields of the lines that the gateway writes.
+-- These lemmas give the fields of the lines that the gateway writes.
 connection_fields : (address : List ℕ) → list_all is_ink address ≡ true → is_filled address ≡ true →
     fields_of (codes "IN IP4 " ++ address) ≡ codes "IN" ∷ codes "IP4" ∷ address ∷ []
 connection_fields address h f =
@@ -217,7 +220,7 @@ media_read port law h =
       law_of-law_text law,
     ) refl
 
--- The lines that the gateway writes.
+-- These are the lines that the gateway writes.
 abbrev version_line : List ℕ
 version_line = codes "v=0"
 
@@ -269,7 +272,7 @@ protocol_goes_on : (law : Law) → list_all continues (codes " RTP/AVP " ++ law_
 protocol_goes_on Mu = refl
 protocol_goes_on A = refl
 
--- The written text consists of the four lines, each with its line end.
+-- The four lines, each with its line end. By the lemmas below, the written text consists of these lines.
 abbrev with_ends : List ℕ → List ℕ → List ℕ
 with_ends connection media = version_line ++ 13 ∷ 10 ∷
     (connection ++ 13 ∷ 10 ∷ (media ++ 13 ∷ 10 ∷ (time_line ++ 13 ∷ 10 ∷ [])))

@@ -79,7 +79,8 @@ ended-progress_of done [] = rw (append-nil done) refl
 ended-progress_of done (line ∷ lines) = rw (offer_by-state_of (line ∷ lines))
     (end_one done (line ∷ lines) (ltb (length (take 8 (map offer_of done))) 8) (ltb 8 (length done)) refl refl)
 
--- A line is added to the current alternative.
+-- The progress after these complete alternatives, while this alternative is read. By the lemmas below, a line is added
+-- to the current alternative.
 abbrev begun : List (List (List ℕ)) → Alternative → Progress
 begun done alternative = record {
   offers = take 8 (map offer_of done);
@@ -179,7 +180,7 @@ read_on-progress_of (line ∷ lines) done current =
     read_line done current line lines (letter_and_value line) refl
     (λ done' current'. read_on-progress_of lines done' current')
 
--- Reading the lines of a content one by one yields the result that the definitions require.
+-- Reading the lines of a descriptor's content one by one yields the result that the definitions require.
 pub content_read : (content : List ℕ) → read_on progress_at_start (content_lines content) ≡ sessions_of content
 unfolding sessions_of
 content_read content = read_on-progress_of (content_lines content) [] []
@@ -197,7 +198,7 @@ pub line_fault : (p : Progress) (line : List ℕ) (lines : List (List ℕ)) → 
     read_on p (line ∷ lines) ≡ Err Line
 line_fault p line lines e = rw e refl
 
--- The result is the fault `Line` if and only if a line is malformed.
+-- These lemmas show that the result is the fault `Line` if and only if a line is malformed.
 over_told : (over : Bool) (offers : List (Option Offer)) → cond over (Err TooMany) (Ok offers) ≡ Err Line → ⊥
 over_told true offers e = cc
 over_told false offers e = cc

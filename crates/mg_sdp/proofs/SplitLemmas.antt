@@ -27,7 +27,7 @@ pub split_first : (p : ℕ → Bool) (xs : List ℕ) →
 split_first p [] = record { others = []; parts = refl; after = refl }
 split_first p (x ∷ xs) = split_step p x xs (p x) refl (split_first p xs)
 
--- The first element after the longest prefix that satisfies p does not satisfy p.
+-- By these lemmas, the first element after the longest prefix that satisfies p does not satisfy p.
 fails_step : (p : ℕ → Bool) (x : ℕ) (xs : List ℕ) (b : Bool) → p x ≡ b →
     ((y : ℕ) (ys : List ℕ) → drop (prefix_len p xs) xs ≡ y ∷ ys → p y ≡ false)
     → (y : ℕ) (ys : List ℕ) → drop (prefix_len p (x ∷ xs)) (x ∷ xs) ≡ y ∷ ys → p y ≡ false

@@ -1,4 +1,4 @@
--- The length of a written session description.
+-- The text of a written session description, and rules that bound its length.
 use Rattle.std.proofs.Common.{codes, [], ◌≡◌, ◌+◌, ◌++◌, append_assoc, decimal}
 use Rattle.mg_words.proofs.DecimalLemmas.{byte_short, port_short}
 use Rattle.mg_words.specs.Address.{address_text}

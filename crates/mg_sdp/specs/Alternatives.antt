@@ -32,7 +32,8 @@ pub record AreAlternatives (lines : List (List ℕ))
   pub each : AllByRecursion IsAlternative alternatives
   pub later : AllByRecursion BeginsWithVersion (drop 1 alternatives)
 
--- The result of reading: the offers of at most eight alternatives, if every line is well-formed.
+-- The result of reading: the offers of the alternatives, or a fault if a line is malformed or if more than eight
+-- alternatives exist.
 abbrev pub offers_read : List (List ℕ) → List (List (List ℕ)) →
     Result (List (Option Offer)) SdpFault
 offers_read lines alternatives =
@@ -40,7 +41,7 @@ offers_read lines alternatives =
     else (if nat_lt alternative_limit (length alternatives) then Err TooMany
     else Ok (map offer_of alternatives))
 
--- The result of reading a content is what its lines and their alternatives determine.
+-- The result of reading a descriptor's content is what its lines and their alternatives determine.
 abbrev pub IsContentReading : List ℕ → Result (List (Option Offer)) SdpFault → Type 0
 IsContentReading content result =
     (alternatives : List (List (List ℕ))) × AreAlternatives (content_lines content) alternatives

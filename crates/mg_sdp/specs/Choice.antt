@@ -20,7 +20,7 @@ is_own_port own asked = option_map_or (λ port. port == own) asked true
 abbrev pub is_open_port : Option ℕ → Bool
 is_open_port asked = option_map_or (λ port. not (port == 0)) asked false
 
--- Whether the gateway can receive what is offered, at this address and port.
+-- Whether the gateway, with this address and port, can receive what is offered.
 abbrev pub is_served_local : List ℕ → ℕ → Offer → Bool
 is_served_local address port offer =
     is_own_address address offer.address && is_own_port port offer.port
@@ -37,7 +37,7 @@ abbrev pub local_of : List ℕ → ℕ → Offer → Chosen
 local_of address port offer =
     record { address = address; port = port; law = unwrap_or offer.law Mu }
 
--- The first offer whose media the gateway can receive. The law is mu-law if it is left to the gateway.
+-- The first offer whose media the gateway can receive. If the offer leaves the law to the gateway, the law is mu-law.
 abbrev pub local_choice : List ℕ → ℕ → List (Option Offer) → Option Chosen
 local_choice address port alternatives =
     option_map (local_of address port)

@@ -1,5 +1,5 @@
--- The lines of a session description (RFC 4566, section 5). Ignoring spaces and tabs at both ends
--- of a line, and empty lines, is this project's own rule.
+-- The lines of a session description (RFC 4566, section 5). By this project's own rule, empty lines are ignored, and so
+-- are spaces and tabs at both ends of a line.
 use Rattle.std.specs.Prelude.{ℕ, ◌==◌, ◌-◌, ◌||◌, ◌&&◌, Bool, true, false, List, [], ◌∷◌, length}
 use Rattle.std.specs.Prelude.{map, filter, take, drop, Option, Some, None, is_some, if◌then◌else◌}
 use Rattle.std.specs.List.{prefix_len, suffix_len, slice_split, filter_map}
@@ -12,12 +12,12 @@ use Rattle.mg_words.specs.LineEnd.{is_line_end}
 abbrev pub is_space_or_tab : ℕ → Bool
 is_space_or_tab b = b == byte " " || b == byte "\t"
 
--- Whether a text is not empty.
+-- Whether text is not empty.
 abbrev pub is_filled : List ℕ → Bool
 is_filled [] = false
 is_filled (b ∷ text) = true
 
--- A text without the spaces and tabs at its end, and a text without those at both ends.
+-- These definitions remove the spaces and tabs at the end of text, and at both ends.
 abbrev pub trimmed_end : List ℕ → List ℕ
 trimmed_end text = take (length text - suffix_len is_space_or_tab text) text
 

@@ -22,13 +22,14 @@ abbrev pub is_served_attribute : List ℕ → Bool
 is_served_attribute value =
     not (starts_with nat_eq value (codes "ptime:")) || bytes_eq value (codes "ptime:20")
 
--- The port and law that the media line asks for, if there is exactly one media line.
+-- The port and law that the only media line asks for. `None` if the lines don't have exactly one media line, or if it
+-- is not supported.
 abbrev pub only_media : List (List ℕ) → Option MediaLine
 only_media (value ∷ []) = media_in (fields_of value)
 only_media _ = None
 
--- The offer of an alternative, or None if its lines are not supported. The last connection line counts. If there is
--- none, the address is left to the gateway.
+-- The offer of an alternative, or None if its lines are not supported. The last connection line counts. Without a
+-- connection line, the address is left to the gateway.
 unfoldable pub offer_of : List (List ℕ) → Option Offer
 offer_of lines = do
   address ← option_map_or (λ value. connection_in (fields_of value))

@@ -33,7 +33,7 @@ fn is_own_port(asked: Option<u16>, own: u16) -> bool
     asked.is_none_or(|port| port == own)
 }
 
-/// Returns whether the gateway can receive what is offered, at this address and port.
+/// Returns whether the gateway, with this address and port, can receive what is offered.
 fn is_served_local(offer: &Offer, address: [u8; 4], port: u16) -> bool
     ensures value { result ≡ is_served_local address port offer.now }
 {

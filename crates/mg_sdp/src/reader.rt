@@ -44,7 +44,7 @@ impl Reader {
         }
     }
 
-    /// Ends the alternative that is being read, if there is one.
+    /// If an alternative is being read, ends it.
     fn end(&mut self)
         ensures value { self.new ≡ ended self.old }
     {

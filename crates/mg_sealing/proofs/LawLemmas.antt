@@ -1,4 +1,4 @@
--- A change before a seal makes the seal wrong.
+-- A change before a seal makes the seal invalid.
 use Rattle.std.proofs.Common.{◌≡◌, ◌⊎◌, inl, inr, ⊎_elim, ◌<◌, take, ℕ, zero, suc, ◌+◌, ◌≤◌, Bool, true, false, cond, List, [], ◌∷◌, ◌++◌, Option, None, Some, length, drop, refl, sym, ap, subst, ◌∙◌, arith, append_assoc, append-nil, length-append, codes}
 use Rattle.std.proofs.lemmas.List.{take-append-drop}
 use Rattle.std.proofs.lemmas.Slice.Eq.{bytes_eq-Decides}
@@ -11,7 +11,7 @@ use Rattle.mg_chain.proofs.ReadLemmas.{shorter}
 use Rattle.mg_sealing.proofs.LineLemmas.{IsLine, cut, first_line, is_line, joined, parts, same_hash, whole_part}
 use Rattle.mg_sealing.specs.Laws.{ChangesShow, HasNoWrong, HaveCollision}
 
--- ## A wrong seal stays one
+-- ## An invalid seal stays invalid
 
 judged_none : (is_right : Bool) (number : ℕ) (seals : Seals) (wrong : Option ℕ) → seals.wrong ≡ wrong
     → (judged is_right number seals wrong).wrong ≡ None → (seals.wrong ≡ None) × (is_right ≡ true)
@@ -41,7 +41,8 @@ lines_none (suc most) seals number before (b ∷ bs) none =
 
 -- ## Lines that are read
 
--- The rest of a text after the lines in `before`: from some state of the check, no seal in `tail` is wrong.
+-- In the rest of a text after `before`, which is `tail`, no seal is invalid. This holds from some state of the check
+-- on.
 record Later (before tail : List ℕ) : Type 0 where
   most : ℕ
   seals : Seals
@@ -73,7 +74,7 @@ later (suc most) seals number before (b ∷ bs) tail whole enough none =
     (drop_through 10 (b ∷ (bs ++ tail)))).wrong ≡ None) p.0 none)) in
     subst (λ (l : List ℕ). Later l tail) (append_assoc before line rest ∙ ap (λ (l : List ℕ). before ++ l) p.3) next
 
--- ## A right seal
+-- ## A valid seal
 
 right_if : (is is_right : Bool) (number : ℕ) (seals : Seals) → is ≡ true
     → (cond is (judged is_right number seals seals.wrong) seals).wrong ≡ None → is_right ≡ true
@@ -103,7 +104,7 @@ same_end (b ∷ bs) found rest is l = at l.most l.enough l.none
         (bytes_eq-Decides (drop 9 (b ∷ bs)) (seal_end (last_part found))).0
         (right_if (is_seal (b ∷ bs)) (bytes_eq (drop 9 (b ∷ bs)) (seal_end (last_part found))) l.number l.seals is.is judged_so)
 
--- If no seal of a text is wrong, a complete line with the form of a seal is the seal of the part before it.
+-- If no seal of a text is invalid, a complete line with the form of a seal is the seal of the part before it.
 right_seal : (line found rest : List ℕ) → IsLine line → is_whole found ≡ true → HasNoWrong (found ++ (line ++ rest))
     → line ≡ seal_of (last_part found)
 right_seal line found rest is whole none =

@@ -78,7 +78,7 @@ ends front =
     ap (λ (n : ℕ). pointwise nat_eq (10 ∷ []) (drop n (front ++ 10 ∷ []))) last
     ∙ ap (λ (l : List ℕ). pointwise nat_eq (10 ∷ []) l) (drop_front front (10 ∷ []))
 
--- ## A text of whole lines, and more
+-- ## Complete lines followed by more text
 
 abbrev pub Parts : (text more : List ℕ) → Type 0
 Parts text more =
@@ -197,7 +197,7 @@ unfolding has_mark
 part_shorter [] some = absurd cc
 part_shorter (b ∷ bs) some = omega (arith, ap length (part_cons b bs some), part_le bs)
 
--- If a text has a mark and its tail has none, the mark begins right after the first byte, which is a line feed.
+-- If text has a mark and its tail has no mark, the mark begins right after the first byte, which is a line feed.
 first_mark : (b : ℕ) (bs : List ℕ) → has_mark (b ∷ bs) ≡ true → has_mark bs ≡ false
     → (nat_eq 10 b ≡ true) × (begins bs ≡ true)
 unfolding has_mark

@@ -1,10 +1,10 @@
--- The guarantees of right seals, and the effect of sealing a recording twice.
+-- The guarantees of valid seals, and the effect of sealing a recording twice.
 use Rattle.std.specs.Prelude.{◌≡◌, ◌≢◌, ◌⊎◌, true, ℕ, List, ◌++◌, None}
 use Rattle.sha2.specs.Sha256.{sha256}
 use Rattle.mg_chain.specs.Seals.{is_whole, last_part, seal_of, seals_of}
 use Rattle.mg_sealing.specs.Sealed.{sealed}
 
--- No seal of the text is wrong.
+-- No seal of the text is invalid.
 abbrev pub HasNoWrong : List ℕ → Type 0
 HasNoWrong text = (seals_of text).wrong ≡ None
 
@@ -21,8 +21,8 @@ pub record HaveCollision (one two : List ℕ) : Type 0 where
   pub differ : first ≢ second
   pub same : sha256 first ≡ sha256 second
 
--- If two texts have no wrong seal and contain the same seal, the text before that seal is the same in both, or there is
--- a collision of SHA-256.
+-- Let two texts have no invalid seal, and contain the same seal. Then the text before that seal is the same in both, or
+-- there is a collision of SHA-256.
 abbrev pub ChangesShow : Type 0
 ChangesShow = (part one two rest more : List ℕ) → is_whole one ≡ true → is_whole two ≡ true
     → HasNoWrong (one ++ (seal_of part ++ rest)) → HasNoWrong (two ++ (seal_of part ++ more))

@@ -4,8 +4,8 @@ use Rattle.mg_chain.specs.declared.seals.Seals.{Seals}
 use Rattle.mg_options.specs.declared.status.Status.{Status}
 use Rattle.mg_options.specs.declared.status.Status.TheVariants.{Done, BadLine, Unknown}
 
--- The report about seals, given the lines of the last right seal and the first wrong one. After a wrong seal, the
--- report says nothing about later lines.
+-- The report about seals, given the lines of the last valid seal and the first invalid seal. The report says nothing
+-- about lines after an invalid seal.
 abbrev pub reported : Seals → (right wrong : Option ℕ) → List ℕ
 reported seals (Some right) (Some wrong) =
     codes "changed after line " ++ (decimal right ++ (codes ", up to line " ++ (decimal wrong ++ codes "\n")))

@@ -5,7 +5,7 @@ use Rattle.std.specs.Io.BufRead.{take_through, drop_through}
 use Rattle.std.specs.List.{ends_with}
 use Rattle.mg_chain.specs.Seals.{is_seal, last_part, seal_of}
 
--- The number of ticks in a minute including this line, given the number before it.
+-- The number of ticks in a minute after this line, given the number before the line.
 abbrev pub ticks_with : ℕ → (line : List ℕ) → ℕ
 ticks_with ticks line = if bytes_eq line (codes "tick\n") then ticks + 1 else ticks
 
@@ -13,11 +13,11 @@ ticks_with ticks line = if bytes_eq line (codes "tick\n") then ticks + 1 else ti
 abbrev pub ticks_left : ℕ → ℕ
 ticks_left ticks = if ticks == 3000 then 0 else ticks
 
--- The seal before the next line: it is due at the end of a minute, unless the next line is a seal, right or wrong.
+-- The seal before the next line: it is due at the end of a minute, unless the next line is a seal, valid or not.
 abbrev pub seal_before : ℕ → (printed line : List ℕ) → List ℕ
 seal_before ticks printed line = if ticks == 3000 && not (is_seal line) then seal_of (last_part printed) else []
 
--- The output including this line, and a seal before the line if one is due.
+-- The output after this line, with a seal before the line if a seal is due.
 abbrev pub printed_with : ℕ → (printed line : List ℕ) → List ℕ
 printed_with ticks printed line = (printed ++ seal_before ticks printed line) ++ line
 
@@ -26,7 +26,7 @@ unfoldable pub last_line : List ℕ → List ℕ
 last_line [] = []
 last_line (b ∷ bs) = if length (drop_through 10 (b ∷ bs)) == 0 then b ∷ bs else last_line bs
 
--- Whether a last line is complete and isn't a seal, right or wrong.
+-- Whether a last line is complete and isn't a seal, valid or not.
 abbrev pub needs_seal : List ℕ → Bool
 needs_seal line = ends_with nat_eq line (10 ∷ []) && not (is_seal line)
 

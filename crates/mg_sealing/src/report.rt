@@ -14,7 +14,7 @@ pub(crate) type ReportLine = ArrayVec<u8, LIMIT>;
 /// The maximum length, in bytes, of a number in decimal.
 const NUMBER_LIMIT: usize = 20;
 
-/// Appends a text to a report.
+/// Appends text to a report.
 fn push(text: &[u8], line: &mut ReportLine)
     requires room { length line.old.items + length text.now ≤ LIMIT }
     ensures value { line.new.items ≡ line.old.items ++ text.now }
@@ -32,7 +32,7 @@ fn push_number(number: u64, line: &mut ReportLine)
     push(buffer.format(number).as_bytes(), line);
 }
 
-/// Reports a change between a right seal and a wrong one.
+/// Reports a change between a valid seal and an invalid seal.
 #[tactic(auto, using(crate::proofs::ReportLemmas::joined))]
 fn report_change(right: u64, wrong: u64) -> ReportLine
     ensures value { result.items ≡ codes "changed after line " ++ (decimal right ++ (codes ", up to line "
@@ -59,7 +59,7 @@ fn report_first_change(wrong: u64) -> ReportLine
     line
 }
 
-/// Reports that all seals are right.
+/// Reports that all seals are valid.
 #[tactic(auto, using(crate::proofs::ReportLemmas::joined))]
 fn report_seals(count: u64, last: u64, more: u64) -> ReportLine
     ensures value { result.items ≡ codes "seals hold: " ++ (decimal count ++ (codes ", the last in line "

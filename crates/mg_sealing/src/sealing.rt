@@ -51,7 +51,7 @@ fn put_seal<W: Write>(chain: &mut Chain, output: &mut W) -> io::Result<()>
     put(&line, chain, output)
 }
 
-/// Returns the number of ticks in a minute including this line, given the number before it.
+/// Returns the number of ticks in a minute after this line, given the number before the line.
 fn ticks_with(ticks: u32, line: &[u8]) -> u32
     requires few { ticks ≤ TICKS }
     ensures few { result ≤ TICKS }
@@ -65,7 +65,7 @@ fn ticks_with(ticks: u32, line: &[u8]) -> u32
     }
 }
 
-/// Returns whether a line is a seal, right or wrong.
+/// Returns whether a line is a seal, valid or not.
 fn is_seal(line: &[u8]) -> bool
     ensures value { result ≡ is_seal line.now }
 {
@@ -157,10 +157,10 @@ fn seal_text<R: Read, W: Write>(alloc: Global, reader: &mut R, output: &mut W) -
     write_sealed(alloc, &mut buffered, output)
 }
 
-/// Copies a recording from the input to the output, with a seal after the ticks of each minute and a last one at the
-/// end. The last seal is left out after a seal, after a line without a line feed (the seal would become part of that
-/// line), and if the input is empty. If a seal already follows the ticks of a minute, none is added, so sealing a
-/// sealed recording changes nothing. Returns the exit status. A fault is reported to `errors`.
+/// Copies a recording from the input to the output, with a seal after the ticks of each minute and a last seal at the
+/// end. The last seal is left out after a seal, and if the input is empty. It is also left out after a line without a
+/// line feed, because it would become part of that line. If a seal already follows the ticks of a minute, no seal is
+/// added, so sealing a sealed recording changes nothing. Returns the exit status. A fault is reported to `errors`.
 pub fn seal<R: Read, W: Write, E: Write>(
     alloc: Global,
     input: &mut R,

@@ -14,7 +14,7 @@ use std::io::{self, BufReader, Error, ErrorKind, Read, Write};
 /// The name of standard input in messages.
 const INPUT: &str = "standard input";
 
-/// Returns what the seals in a text show.
+/// Returns the counts of seals and lines in a text.
 fn seals_in<R: Read>(alloc: Global, reader: &mut R) -> io::Result<Seals>
     ensures value { IfOk result (λ seals. IfSome (R.remaining reader.old) (λ text. seals ≡ seals_of text)) }
 {
@@ -33,7 +33,7 @@ pub(crate) fn status_of(error: &Error) -> Status
     }
 }
 
-/// Returns the exit status that reports whether the seals are right.
+/// Returns the exit status that reports whether the seals are valid.
 fn answer(seals: &Seals) -> Status
     ensures value { result ≡ answer seals.now.right seals.now.wrong }
 {
@@ -44,7 +44,7 @@ fn answer(seals: &Seals) -> Status
     }
 }
 
-/// Prints whether the seals in the text with this name are right. Returns the exit status. A fault is reported to
+/// Prints whether the seals in the text with this name are valid. Returns the exit status. A fault is reported to
 /// `errors`.
 pub fn verify_text<R: Read, W: Write, E: Write>(
     alloc: Global,
@@ -73,7 +73,7 @@ pub fn verify_text<R: Read, W: Write, E: Write>(
     }
 }
 
-/// Prints whether the seals in the input are right. Returns the exit status. A fault is reported to `errors`.
+/// Prints whether the seals in the input are valid. Returns the exit status. A fault is reported to `errors`.
 pub fn verify_input<R: Read, W: Write, E: Write>(
     alloc: Global,
     input: &mut R,

@@ -1,7 +1,7 @@
 //! A gateway on UDP ports, driven by lines or by a clock.
 //!
 //! The command `poll` receives the datagrams that arrived at the ports, and `tick` advances by 20 ms and sends the
-//! packets. `stats` prints the counts, and `quit` ends the run. The writer of these lines acts as the gateway's clock.
+//! packets. `stats` prints the counts, and `quit` ends the run. Whatever writes the lines acts as the gateway's clock.
 //!
 //! ```rust
 //! let counts = serve(alloc, &setup, core, None, &mut ports, &mut input, &mut output, &mut monitor)?;

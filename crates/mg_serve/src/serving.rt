@@ -25,11 +25,11 @@ use std::io::{Read, Write};
 /// configuration does not include are not used.
 ///
 /// - `poll` reads at most 64 datagrams from each socket: first from the control socket, then from the media sockets in
-///   Ascending order. A control message is answered at once; a message from an address that isn't a controller's is
+///   ascending order. A control message is answered at once; a message from an address that isn't a controller's is
 ///   dropped, and so is a message that doesn't pass the fence. A failed receive ends that socket's turn.
 /// - `tick` advances by 20 ms and sends the packets. If a send fails, only that packet is lost.
 /// - `stats` prints `control=a media=b ticks=c sent=d failed=e dropped=f,g,h,i,j,k concealed=l`: [`Counts`] explains
-///   These numbers. If there is a fence, its number and the count of stale messages follow, as in `fence=17 stale=0`.
+///   these numbers. If there is a fence, its number and the count of stale messages follow, as in `fence=17 stale=0`.
 /// - Any other line prints `unknown command`.
 ///
 /// With a title, the output is a recording: a script with one line for each event (`control`, `rtp` or `tick`), in

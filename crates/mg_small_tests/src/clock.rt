@@ -8,8 +8,7 @@ use std::time::Duration;
 
 const MS: u64 = 1_000_000;
 
-/// A clock that returns the given readings, and then fails. It records how long it waits. Its first waits are ended by
-/// messages.
+/// A clock that returns the given readings, and then fails. It records how long it waits. Messages end its first waits.
 #[derive(Drop)]
 struct Script<'a> {
     times: &'a [u64],

@@ -7,7 +7,7 @@ pub fn assert_equal<T: PartialEq + Debug + Drop>(rt: &impl Abort, found: T, want
     assert_eq!(rt; found, wanted);
 }
 
-/// Ends the test and prints the case's name and the number of its first wrong step, if there is one.
+/// If the case has a wrong step, ends the test and prints the case's name and the number of the first wrong step.
 pub fn assert_right(rt: &impl Abort, name: &str, wrong: Option<usize>) {
     assert_equal(rt, (name, wrong), (name, None));
 }

@@ -51,7 +51,7 @@ const ONEWAY_FROM_ALL: Triple = Triple {
     association: Association::Oneway,
 };
 
-/// A call on a table with its outcome, or a check of the table after the calls before.
+/// A call on a table with its outcome, or a check of the table after the previous calls.
 #[derive(Clone, Copy)]
 enum Action<'a> {
     /// A member enters at this place. The flags say whether the member talks and whether it listens.

@@ -45,7 +45,7 @@ pub fn ends_in_line_feed(lines: &[u8]) -> bool
     !lines.is_empty() && lines[lines.len() - 1] == b'\n'
 }
 
-/// An append to a journal with its outcome, or a check of the journal after the appends before.
+/// An append to a journal with its outcome, or a check of the journal after the previous appends.
 #[derive(Clone, Copy)]
 enum Action<'a> {
     Append(&'a [u8], Durability, Result<(), AppendFault>),
@@ -239,7 +239,7 @@ fn appends_lines_or_none(rt: HostRuntime) -> Result<(), Fail> {
     Ok(())
 }
 
-/// An append without a journal fails.
+/// Returns whether an append without a journal fails.
 fn fails_without_a_journal(alloc: Global) -> io::Result<bool> {
     let mut none: Option<FileJournal<MemoryFile>> = None;
     let mut some = Some(journal(alloc, &[])?);
@@ -265,8 +265,8 @@ fn goes_on(mut journal: FileJournal<MemoryFile>, text: &[u8]) -> bool {
         && journal.file().bytes().strip_prefix(text) == Some(b"three\n".as_slice())
 }
 
-/// Returns whether only the complete lines `whole` of a file that holds `text` are read, and whether the partial last
-/// line is cut off when the lines are accepted.
+/// Returns whether a file that holds `text` is opened correctly: only its complete lines `whole` are read, and
+/// accepting them removes the partial last line.
 fn opens_whole(
     alloc: Global,
     text: &[u8],
@@ -307,7 +307,7 @@ const TEXTS: [(&[u8], &[u8]); 5] = [
     (b"one\n\ntwo\n\0\0", b"one\n\ntwo\n"),
 ];
 
-/// Returns whether the next bytes that are read are these.
+/// Returns whether the next read returns these bytes.
 fn reads_next(opening: &mut Opening<MemoryFile>, wanted: &[u8]) -> io::Result<bool> {
     let mut bytes = [0; 5];
     opening.read_exact(&mut bytes)?;
@@ -331,7 +331,7 @@ fn peeks_at_whole_lines(alloc: Global) -> io::Result<bool> {
     )
 }
 
-/// Returns a text of `count` lines of 100 bytes.
+/// Returns `count` lines of 100 bytes.
 fn long_text(alloc: Global, count: u16) -> Result<Vec<u8>, AllocError> {
     let mut text = Vec::new(alloc);
     for i in 0..count {
@@ -341,7 +341,8 @@ fn long_text(alloc: Global, count: u16) -> Result<Vec<u8>, AllocError> {
     Ok(text)
 }
 
-/// Opens a file whose partial last line is longer than 64 KiB, the size of the chunks in which files are read.
+/// Returns whether a file is opened correctly if its partial last line is longer than 64 KiB, which is the size of a
+/// chunk.
 fn opens_long_files(alloc: Global) -> io::Result<bool> {
     let whole = long_text(alloc, 2000)?;
     let mut text = whole.as_slice().to_vec(alloc)?;
@@ -357,7 +358,7 @@ fn fault(alloc: Global, text: &[u8], faults: &[InjectedFault]) -> Option<ErrorKi
     }
 }
 
-/// Returns whether an error is reported if a read fails or a partial last line can't be cut off.
+/// Returns whether an error is reported if a read fails or a partial last line can't be removed.
 fn reports_errors_at_opening(alloc: Global) -> bool {
     let full = Some(ErrorKind::StorageFull);
     let uncut = [InjectedFault {

@@ -11,7 +11,7 @@ const UPPER: &[u8] = b"<MGC.EXAMPLE>:2945";
 
 const OTHER: &[u8] = b"[127.0.0.1]:2946";
 
-/// A call with its outcome, or a check of the kept replies after the calls before.
+/// A call with its outcome, or a check of the kept replies after the previous calls.
 enum Action<'a> {
     /// Keeps a reply to the sender's request with this number, for which no reply was kept.
     Keep(&'a [u8], u32, &'a [u8]),

@@ -1,4 +1,4 @@
-//! Writers that never wait for their reader.
+//! Tests of writers that never wait for their reader.
 
 use crate::equality::assert_right;
 use crate::failure::kind;
@@ -58,7 +58,7 @@ impl<'a> Pipe for Script<'a> {
 
 type Scripted<'a> = Outlet<Script<'a>>;
 
-/// A call of an outlet and its outcome, or what is found after the calls before.
+/// A call on an outlet with its outcome, or a check of the outlet after the previous calls.
 #[derive(Clone, Copy)]
 enum Action<'a> {
     /// Writes this text. The write returns its length, even if the text is dropped.
@@ -83,7 +83,7 @@ enum Action<'a> {
     Dropped(u64, bool),
 }
 
-/// What an outlet does in front of a pipe that executes the steps and is ready as the answers say.
+/// Calls on an outlet whose pipe executes the steps and is ready as the answers say.
 struct Case<'a> {
     name: &'a str,
     steps: &'a [Step],
@@ -281,7 +281,7 @@ const CASES: [Case<'static>; 11] = [
     },
 ];
 
-/// Returns a text of this length whose adjacent chunks differ.
+/// Returns text of this length whose adjacent chunks differ.
 fn text(alloc: Global, len: u32) -> Result<Vec<u8>, AllocError> {
     let mut text = Vec::new(alloc);
     for i in 0..len {
@@ -290,12 +290,12 @@ fn text(alloc: Global, len: u32) -> Result<Vec<u8>, AllocError> {
     Ok(text)
 }
 
-/// Returns whether a text is the front of the long text, with this length.
+/// Returns whether `text` is the first `len` bytes of the long text.
 fn is_front(text: &[u8], len: usize, long: &[u8]) -> bool {
     Some(text) == long.get(..len)
 }
 
-/// Writes a text. Returns whether the write returns its length.
+/// Writes text. Returns whether the write returns the length of the text.
 fn is_accepted(outlet: &mut Scripted<'_>, text: &[u8]) -> bool {
     outlet.write(text).ok() == Some(text.len())
 }

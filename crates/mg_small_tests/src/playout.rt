@@ -181,7 +181,7 @@ const CASES: [(&str, &[Action]); 9] = [
     ),
 ];
 
-/// Places a frame. Returns whether the result is the wanted one.
+/// Places a frame. Returns whether the result is as wanted.
 fn places(playout: &mut Playout, source: u32, sequence: u16, wanted: Placed) -> bool {
     playout.place(source, sequence, frame(sequence.cast_signed())) == wanted
 }

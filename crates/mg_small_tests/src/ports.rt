@@ -192,7 +192,7 @@ fn with_journal(
     Ok(ports.with_journal(Opening::new(file)?.accept()?))
 }
 
-/// Receives at a socket. Returns whether the outcome is the expected one.
+/// Receives at a socket. Returns whether the outcome is as expected.
 fn receives(
     ports: &mut FakePorts,
     socket: usize,
@@ -265,7 +265,7 @@ fn are_logged(ports: &FakePorts, actions: &[Action<'_>]) -> bool {
     true
 }
 
-/// Returns whether the journal's file is the wanted one.
+/// Returns whether the journal's file is as wanted.
 fn is_file(file: Option<&MemoryFile>, wanted: Option<File<'_>>) -> bool {
     match (file, wanted) {
         (Some(file), Some(wanted)) => {

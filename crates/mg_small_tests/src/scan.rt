@@ -103,7 +103,7 @@ const CASES: [(&[u8], &[Found<'static>]); 11] = [
     ),
 ];
 
-/// Returns whether the next result of a scanner is the wanted one.
+/// Returns whether the next result of a scanner is as wanted.
 fn gives(scanner: &mut Scanner<'_>, text: &[u8], wanted: Found<'_>) -> bool {
     match (scanner.next(), wanted) {
         (Some(Ok(token)), Found::Token(kind, part)) => {
@@ -115,7 +115,7 @@ fn gives(scanner: &mut Scanner<'_>, text: &[u8], wanted: Found<'_>) -> bool {
     }
 }
 
-/// Returns the number of the first result that is not the wanted one, or `None` if there is no such result.
+/// Returns the number of the first result that is not as wanted, or `None` if there is no such result.
 fn first_wrong(text: &[u8], wanted: &[Found<'_>]) -> Option<usize> {
     let mut scanner = Scanner::new(text);
     for at in 0..wanted.len() {

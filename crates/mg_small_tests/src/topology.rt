@@ -35,7 +35,7 @@ const ALL_TO_ALL: Triple = Triple {
     association: Association::Bothway,
 };
 
-/// A call on a topology with its outcome, or a check of the topology after the calls before.
+/// A call on a topology with its outcome, or a check of the topology after the previous calls.
 #[derive(Clone, Copy)]
 enum Action<'a> {
     /// A member takes this free seat.

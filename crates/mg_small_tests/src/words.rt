@@ -5,7 +5,7 @@ use mg_words::{
     context_id_of, cut, mode_listens, mode_talks, number_of, port_of, version_in_digits,
 };
 
-/// Texts that are not numbers.
+/// Strings that are not numbers.
 const NO_NUMBERS: [&[u8]; 5] = [b"", b"4294967296", b"00000000007", b"+7", b"7 "];
 
 fn reads_numbers() -> bool {
@@ -24,7 +24,7 @@ fn reads_ports_and_versions() -> bool {
         && version_in_digits(b"001").is_none()
 }
 
-/// Texts that are not addresses.
+/// Strings that are not addresses.
 const NO_ADDRESSES: [&[u8]; 5] = [
     b"127.0.0",
     b"127.0.0.256",

@@ -1,4 +1,4 @@
--- The rows that are heard in a room: the joined rows except those that are left out.
+-- The rows that are heard in a room: the joined rows, except the rows that are left out.
 use Rattle.std.proofs.Common.{◌≡◌, ℕ, ◌+◌, ◌<◌, ◌≤◌, ◌⊎◌, inl, inr, Bool, true, false, not, ◌||◌, ◌==◌, cond, Option, Some, None, ℤ, pos, ◌+ℤ◌, ◌-ℤ◌, List, [], ◌∷◌, ◌++◌, map, length, length-append, get_or, zero, suc, refl, sym, ap, ap₂, subst, ◌∙◌, arith}
 use Rattle.std.specs.Prelude.{All, IsTrue, filter, unsigned_abs}
 use Rattle.std.specs.List.{range_with_len}
@@ -41,7 +41,8 @@ among_joined rooms room (r ∷ rs) k h m = elim (or_cases r k (is_among rs k) m)
   | inr later ↦ among_joined rooms room rs k (All-tail (λ (n : ℕ). IsTrue (is_joined rooms room n)) r rs h) later
 ]
 
--- The total of a room is the sum of the rows that are left out plus the sum of the rows that are heard.
+-- These lemmas split the total of a room into the sum of the rows that are left out and the sum of the rows that are
+-- heard.
 parts : (joined among : Bool) (v : ℤ) → (among ≡ true → joined ≡ true) →
     cond joined v (pos 0) ≡ cond among v (pos 0) +ℤ cond joined (cond (not among) v (pos 0)) (pos 0)
 parts true true v h = omega (arith, ints)
@@ -64,7 +65,7 @@ whole_is f rooms room out h =
     (λ row. parts (is_joined rooms room row) (is_among out row) (f row) (among_joined rooms room out row h.joined)) in
     omega (arith, ints, left, all, heard, both)
 
--- The number of heard rows is at most the number of rows.
+-- These lemmas show that the number of heard rows is at most the number of rows.
 cond_one : (b : Bool) → unsigned_abs (cond b (pos 1) (pos 0)) ≤ 1
 cond_one true = omega arith
 cond_one false = omega arith
@@ -84,7 +85,7 @@ pub few_minus : (base : Option ℕ) (minus : List ℕ) → length minus ≤ leng
 few_minus None minus = omega arith
 few_minus (Some row) minus = omega arith
 
--- The difference between the total and the rows that are left out, after saturation, is the mix.
+-- The mix is the total minus the rows that are left out, saturated.
 pub mix_is : (kept : SumsState) (room : ℕ) (out : List ℕ) (mix rest : List ℤ) → AreOfRoom kept.rooms room out →
     length mix ≡ 160
     → ((i : ℕ) → i < 160 → sample mix i ≡ nearest_sample (sample rest i))
@@ -97,7 +98,7 @@ mix_is kept room out mix rest are long limits differs =
     omega (arith, ints, differs i l, whole_is (sample_in kept.frames i) kept.rooms room out are) in
     limits i l ∙ ap nearest_sample heard)
 
--- The sum over all rows of a room, in any order, is the room's total.
+-- These lemmas show that the sum over all rows of a room, in any order, is the room's total.
 among_at : (rows : List ℕ) (k j : ℕ) → j < length rows → get_or rows j k ≡ k → is_among rows k ≡ true
 among_at [] k j l e = absurd (omega arith)
 among_at (r ∷ rs) k zero l e = let here : (k == r) ≡ true = grind (arith, nat_tests) in
@@ -123,7 +124,7 @@ all_is f rooms room rows h =
     (range_with_len 0 (length rooms)) (λ k. ap (λ (b : Bool). cond b (f k) (pos 0)) (same k))
     ∙ sym (sum_of-among f (length rooms) rows (all_below rooms room rows h.are) h.are.different))
 
--- If a room has the rows `out` and others, the others are heard when `out` is left out.
+-- These lemmas are about a room with the rows `out` and `others`: the rows `others` are heard when `out` is left out.
 first_of : (rooms : List (Option ℕ)) (room : ℕ) (out others : List ℕ) → AreOfRoom rooms room (out ++ others) →
     AreOfRoom rooms room out
 first_of rooms room out others h =

@@ -1,4 +1,4 @@
--- Plain sums over lists and over the numbers below a bound.
+-- Sums over lists, and sums over the numbers below a bound.
 use Rattle.std.proofs.Common.{◌≡◌, ◌≢◌, ℕ, zero, suc, ◌+◌, ◌*◌, ◌<◌, ◌≤◌, inl, inr, Bool, true, false, ◌||◌, ◌==◌, cond, Option, None, Some, ℤ, pos, ◌+ℤ◌, List, [], ◌∷◌, ◌++◌, map, length, get_or, take, refl, sym, ap, ◌∙◌, arith}
 use Rattle.std.specs.Prelude.{All, AllPairs, filter, unsigned_abs}
 use Rattle.std.specs.List.{range_with_len}
@@ -70,7 +70,8 @@ unfolding sum_of
 sum_of-near f b [] h = omega (arith, ints)
 sum_of-near f b (x ∷ xs) h = omega (arith, ints, h x, sum_of-near f b xs h)
 
--- If two functions differ only at one number, their sums differ by the difference of their values there.
+-- By these lemmas, if two functions differ only at one number, their sums differ by the difference of their values
+-- there.
 same_above : (f g : ℕ → ℤ) (a n : ℕ) → ((k : ℕ) → a ≤ k → f k ≡ g k) →
     sum_of f (range_with_len a n) ≡ sum_of g (range_with_len a n)
 unfolding sum_of
@@ -97,8 +98,8 @@ pub sum_of-changed : (f g : ℕ → ℤ) (row n : ℕ) → row < n → ((k : ℕ
     sum_of f (range_with_len 0 n) +ℤ g row ≡ sum_of g (range_with_len 0 n) +ℤ f row
 sum_of-changed f g changed n l h = changed_from f g changed 0 n (omega arith) (omega arith) h
 
--- The sum over different numbers below a bound, in any order, is the sum over the numbers below the bound that are in
--- the list.
+-- These lemmas are about lists of different numbers below a bound, in any order. The sum over such a list is the sum
+-- over the numbers below the bound that are in the list.
 none_among : (x : ℕ) (xs : List ℕ) → All (λ r. x ≢ r) xs → is_among xs x ≡ false
 none_among x [] h = refl
 none_among x (r ∷ rs) h =
@@ -133,7 +134,8 @@ sum_of-among f n (x ∷ xs) below apart =
     let gone : cond (is_among xs x) (f x) (pos 0) ≡ pos 0 = ap (λ b. cond b (f x) (pos 0)) out in
     omega (arith, ints, sum_of-cons f x xs, rest, step, here, gone)
 
--- The sum of the rows that are left out is the base row's, if there is one, plus those of the rows in `minus`.
+-- By these lemmas, the sum of the rows that are left out is the base row's value plus the sum of the rows in `minus`.
+-- Without a base row, only the rows in `minus` count.
 pub left_out-one : (f : ℕ → ℤ) (row : ℕ) → sum_of f (left_out_by (Some row) []) ≡ f row
 left_out-one f row = omega (arith, ints, sum_of-cons f row [], sum_of-nil f)
 

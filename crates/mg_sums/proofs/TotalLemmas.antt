@@ -92,7 +92,7 @@ module _ (kept kept' : SumsState) (row : ℕ) (long : length kept'.rooms ≡ len
     ];
   }
 
--- A row adds its sample to the room that it is joined to, and 0 to the other rooms.
+-- By these lemmas, a row adds its sample to the room that it is joined to, and 0 to the other rooms.
 pub share-none : (kept : SumsState) (room i row : ℕ) → room_of kept row ≡ None → share kept room i row ≡ pos 0
 share-none kept room i row e = ap (λ (o : Option ℕ). cond (is_room o room) (sample_in kept.frames i row) (pos 0)) e
 

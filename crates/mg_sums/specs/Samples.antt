@@ -20,7 +20,7 @@ nearest_sample v = int_max (negsuc 32767) (int_min v (pos 32767))
 abbrev pub silence : List ℤ
 silence = replicate 160 (pos 0)
 
--- The frame, or silence if there is no frame.
+-- The frame, or silence for `None`.
 abbrev pub frame_or_silence : Option (List ℤ) → List ℤ
 frame_or_silence None = silence
 frame_or_silence (Some frame) = frame

@@ -6,8 +6,8 @@ use Rattle.std.specs.Prelude.{slice_index_or, AllPairs, Contains, IsTrue, All}
 use Rattle.std.specs.List.{list_any, range_with_len}
 use Rattle.mg_sums.specs.Samples.{sample, sum_of, nearest_sample}
 
--- The state: the frame of each row, the room that each row is joined to, if any, and how often a row was added or
--- subtracted, modulo 2^32.
+-- The state: the frame of each row, the room that each row is joined to, or `None`, and a work counter. The counter
+-- says how often a row was added or subtracted, modulo 2^32.
 pub record SumsState : Type 0 where
   pub frames : List (List ℤ)
   pub rooms : List (Option ℕ)
@@ -45,7 +45,7 @@ heard_of kept room out i = sum_of (sample_in kept.frames i) (heard_rows kept.roo
 unfoldable pub mix_of : SumsState → ℕ → List ℕ → List ℤ
 mix_of kept room out = map (λ i. nearest_sample (heard_of kept room out i)) (range_with_len 0 160)
 
--- The rows that a mix leaves out: the base, if there is one, and the rows of `minus`.
+-- The rows that a mix leaves out: the optional base, and the rows of `minus`.
 abbrev pub left_out_by : Option ℕ → List ℕ → List ℕ
 left_out_by None minus = minus
 left_out_by (Some base) minus = base ∷ minus

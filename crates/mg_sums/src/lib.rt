@@ -6,7 +6,7 @@
 //! need saturation: at most [`TERMINATIONS`] 16-bit samples are added.
 //!
 //! So a listener's mix doesn't need a sum over all talkers. It is the room's total minus the rows that the listener
-//! must not hear: the listener's own (the base) and the silenced ones. The mix is saturated once, to 16 bits.
+//! must not hear: the listener's own row (the base) and the silenced rows. The mix is saturated once, to 16 bits.
 //!
 //! ```rust
 //! let mut sums = Sums::new(alloc)?;
@@ -19,9 +19,9 @@
 //! assert_eq!(rt; sums.mix(room, Some(second), &[]), [32124; 160]);
 //! ```
 //!
-//! [`Sums::work`] counts how often a row is added or subtracted. Joining or leaving counts once, setting the frame of a
-//! joined row counts twice, and a mix counts once, and once more for each silenced row. Only the module `rows` sees the
-//! fields of a row; other code reads frames and totals through [`Sums::frame`] and [`Sums::total`].
+//! [`Sums::work`] counts how often a row is added or subtracted. Joining or leaving counts once, and setting the frame
+//! of a joined row counts twice. A mix counts once, and once more for each silenced row. Only the module `rows` sees
+//! the fields of a row; other code reads frames and totals through [`Sums::frame`] and [`Sums::total`].
 //!
 //! [`Sums::new`] allocates all memory; no other call allocates. `specs/Sums.antt` defines totals and mixes, and
 //! [`theorems`] states the consequences. The vector code is in [`kernels`]; [`ranges`] supplies proofs with the ranges

@@ -96,7 +96,7 @@ impl Sums {
 
     /// Sets the frame of a row; `None` is silence.
     ///
-    /// If the row is joined, its old frame is subtracted from the total, and the new one is added.
+    /// If the row is joined, its old frame is subtracted from the total, and the new frame is added.
     pub fn set_frame(&mut self, row: Row, frame: Option<&Frame>)
         ensures set { self.new ≡ record self.old {
           frames = slice_set self.old.frames row (frame_or_silence (option_copied frame.entry));
@@ -158,7 +158,7 @@ impl Sums {
         self.frames[row.number()].is_silent()
     }
 
-    /// Returns the room that a row is joined to, or `None` if it isn't joined to one.
+    /// Returns the room that a row is joined to, or `None` if the row isn't joined to any room.
     pub fn room(&self, row: Row) -> Option<Room>
         ensures value { result ≡ room_of self.now row }
         ensures valid { AreValidSums self.now }
@@ -197,7 +197,7 @@ fn write_rest(
     }
 }
 
-/// Writes a total minus the base, if there is one.
+/// Writes a total, minus the base row if a base is given.
 fn write_without(
     rest: &mut SumRow,
     total: &SumRow,

@@ -14,7 +14,7 @@ pub fn order_does_not_matter()
         total_of kept room i ≡ sum_of (sample_in kept.frames i) rows }
 {}
 
-/// If a room has the base row, the rows of `minus`, and others, then a mix is the sum of the others, saturated once.
+/// If the rows of a room are the base, the rows of `minus` and `others`, a mix is the sum of `others`, saturated once.
 pub fn others_are_heard()
     ensures heard { (kept : SumsState) (room i : ℕ) (base : Option ℕ) (minus others : List ℕ) →
         AreAllOfRoom kept.rooms room (left_out_by base minus ++ others) →

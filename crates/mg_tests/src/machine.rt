@@ -36,7 +36,7 @@ fn has_one(core: &Core) -> bool {
     is_alone && core.rooms().members(1) == [1].as_slice()
 }
 
-/// A datagram that is not a message is rejected with an error.
+/// Returns whether a datagram that is not a message is rejected with an error.
 fn rejects_what_is_no_message(alloc: Global, core: &mut Core) -> Result<bool, NoMemory> {
     let answer = core.control(alloc, CONTROLLER, b"MEGACO/1 mg K{7")?;
     let error = b"MEGACO/1 [127.0.0.1]:2944\nError=400{\"syntax\"}";
@@ -61,7 +61,8 @@ fn runs(core: &mut Core, bytes: &[u8], parsed: &Parsed, text: &[u8]) -> bool
     core.run(CONTROLLER, bytes, parsed) == Answer::Send && core.answer() == text
 }
 
-/// Runs an Add, then a message that was read before the Add, then the Add again.
+/// Runs an Add, then a message that was read before the Add, then the Add again. Returns whether the answers are as
+/// expected.
 fn runs_around(
     alloc: Global,
     core: &mut Core,
@@ -78,7 +79,7 @@ fn runs_around(
     )
 }
 
-/// Reads a message before an Add, and runs it after the Add.
+/// Reads a message before an Add, and runs it after the Add. Returns whether the answers are as expected.
 fn reads_then_runs(alloc: Global, core: &mut Core, bytes: &[u8]) -> Result<bool, NoMemory> {
     let parsed = Core::read(alloc, bytes)?;
     runs_around(alloc, core, bytes, &parsed)
@@ -151,8 +152,8 @@ fn read_in_pieces(
     (written, outcome)
 }
 
-/// Runs a script with a writer that takes 50 bytes per call and fails. Returns the output, and the fault if there is
-/// one.
+/// Runs a script with a writer that takes 50 bytes per call and fails. Returns the output, and the fault, or `None` if
+/// the run has no fault.
 fn write_in_pieces(alloc: Global, script: &[u8], calls: usize) -> (Vec<u8>, Option<RunFault>) {
     let mut reader = Cursor::new(script);
     let mut writer = FailingWriter::new(alloc, 50, calls);

@@ -45,7 +45,7 @@ fn media(alloc: Global, port: u16, source: Peer, bytes: &[u8]) -> Result<Vec<u8>
     Ok(Vec::from_slice(alloc, line.as_slice())?)
 }
 
-/// Returns the line for a datagram: an RTP datagram if there is a port, and a control datagram otherwise.
+/// Returns the line for an RTP datagram at this port or, without a port, for a control datagram.
 fn line(alloc: Global, port: Option<u16>, source: Peer, bytes: &[u8]) -> Result<Vec<u8>, Fail> {
     match port {
         Some(port) => media(alloc, port, source, bytes),

@@ -42,7 +42,7 @@ fn push_parts(script: &mut Vec<u8>, part: Part, count: usize) -> Result<(), Allo
     Ok(())
 }
 
-/// Joins the parts to a script, repeating each as often as its number says.
+/// Joins the parts to a script. Each part is repeated as often as its number says.
 pub fn script_of(alloc: Global, parts: &[(usize, Part)]) -> Result<Vec<u8>, AllocError> {
     let mut script = Vec::new(alloc);
     for (count, part) in parts {

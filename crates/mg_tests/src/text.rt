@@ -64,7 +64,7 @@ fn are_triples(triples: &[NamedTriple]) -> bool {
         && says(second.second, b"b")
 }
 
-/// Returns whether an action's properties are the four expected ones.
+/// Returns whether an action's properties are as expected.
 fn are_properties(properties: &[ContextProperty]) -> bool {
     let [
         ContextProperty::Topology(triples),
@@ -80,7 +80,7 @@ fn are_properties(properties: &[ContextProperty]) -> bool {
         && says(*priority, b"5")
 }
 
-/// Returns whether the parts of a LocalControl are the five expected ones.
+/// Returns whether the parts of a LocalControl are as expected.
 fn are_controls(controls: &[ControlPart]) -> bool {
     let [
         ControlPart::Mode(Mode::SendReceive),
@@ -120,7 +120,7 @@ fn is_media(media: &[MediaPart]) -> bool {
         && says(*remote, b"")
 }
 
-/// Returns whether the descriptors of the Add are the four expected ones.
+/// Returns whether the descriptors of the Add are as expected.
 fn are_descriptors(descriptors: &[Descriptor]) -> bool {
     let [
         Descriptor::Media(media),
@@ -143,7 +143,7 @@ fn is_empty_audit(descriptors: &[Descriptor]) -> bool {
     }
 }
 
-/// Returns whether the commands are the three expected ones.
+/// Returns whether the commands are as expected.
 fn are_commands(commands: &[Command]) -> bool {
     let [add, subtract, notify] = commands else {
         return false;

@@ -56,7 +56,7 @@ word_takes : (source : List ℕ) (kind : TokenKind) (w : Span) (n : ℕ) (ts res
 word_takes source kind w n ts rest le m =
     omega (arith, le, ap bytes m, length-take (w.end - w.start) (drop w.start source))
 
--- ## The word of a triple
+-- ## The association of a triple
 
 same_length : (a b : List ℕ) → str_eq_ignore_ascii_case a b ≡ true → length a ≡ length b
 same_length a b e =

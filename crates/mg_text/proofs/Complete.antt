@@ -33,7 +33,7 @@ pub after_read : (kind : TokenKind) (ts rest : List Token) → IsMark kind ts re
 unfolding after_mark
 after_read kind ts rest m = rw (m.1, is_kind-same kind) refl
 
--- Tokens that start with a mark do not start with another mark.
+-- Tokens that start with a mark do not start with a mark of another kind.
 pub after_other : (kind other : TokenKind) (ts rest : List Token) → is_kind kind other ≡ false → IsMark kind ts rest →
     after_mark other ts ≡ None
 unfolding after_mark
@@ -180,7 +180,7 @@ module _ {X : Type 0} (source : List ℕ) (read : List Token → Result (X × Li
       items_read (x ∷ xs) m.0 rest m.2,
     ) refl
 
--- Lists of words that have values.
+-- The parser accepts the lists of words that are in the grammar.
 module _ {X : Type 0} (meaning : List ℕ → Option X) (source : List ℕ) where
   pub each_word_read : (ts : List Token) (x : X) (rest : List Token) → Stops rest →
       IsWorded meaning source x ts rest → meaning_at meaning source ts ≡ Ok (x, rest)

@@ -45,7 +45,7 @@ assigned_read source ts rest stops (inr m) =
       filled_read source m.2.0 m.0 rest stops m.2.1,
     ) refl
 
--- An optional group that is not followed by an equals sign does not start with one.
+-- If the tokens after an optional group do not start with an equals sign, neither do the tokens from the group on.
 no_equals : (b : Bool) (ts rest : List Token) → after_mark Equals rest ≡ None → IsContent b ts rest →
     after_mark Equals ts ≡ None
 no_equals true ts rest stops m = after_other Open Equals ts m.0.0 refl m.0.1

@@ -86,7 +86,7 @@ property_read source (properties.Emergency (Some w)) ts rest stops m =
       word_read source w m.2.0 rest m.2.2,
     ) refl
 
--- A property starts with the keyword of a property, and a command does not.
+-- These lemmas show that a property starts with the keyword of a property, and that a command does not.
 begins_with : (source : List ℕ) (k : Keyword) (ts rest : List Token) → is_property (Some k) ≡ true →
     IsWorded keyword_of source k ts rest → begins_property source ts ≡ true
 unfolding begins_property
@@ -100,7 +100,7 @@ property_begins source (properties.ContextAudit xs) ts rest m =
 property_begins source (properties.Priority w) ts rest m = begins_with source keywords.Priority ts m.0 refl m.1
 property_begins source (properties.Emergency o) ts rest m = begins_with source keywords.Emergency ts m.0 refl m.1
 
--- The command that a text names, given the keyword that the text spells, if it spells one.
+-- The command that a word names. The option is the keyword that the word spells, or `None`.
 abbrev command_for : List ℕ → Option Keyword → Option CommandHead
 command_for text keyword =
     option_map_or (headed false false) keyword
@@ -229,7 +229,7 @@ sequence_read source (suc n) (x ∷ y ∷ xs) ts le h =
 abbrev items_body : List ℕ → List Token → Result Body ℕ
 items_body source ts = sequence_at source (length ts) ts >>= λ xs. Ok (body_of xs)
 
--- An item starts with the keyword of an item, which is not ERROR.
+-- Tokens that start with an item are parsed as a body of items, because an item does not start with the keyword ERROR.
 item_first : (source : List ℕ) (x : Option MessageItem) (ts rest : List Token) → IsItem source x ts rest →
     body_at source ts ≡ items_body source ts
 unfolding body_at
@@ -270,7 +270,7 @@ sender_read : (source : List ℕ) (s : Span) (ts rest : List Token) → IsWordTh
 unfolding sender_at
 sender_read source s ts rest m = rw (word_read source s ts rest m.1, m.0) refl
 
--- The parser accepts the head of a message and the text after the head.
+-- These lemmas show that the parser accepts the head of a message and the text after the head.
 pub head_read : (source : List ℕ) (n : ℕ) (ts rest : List Token) → IsWorded version_in_head source n ts rest →
     version_at source ts ≡ Ok (n, rest)
 head_read source n ts rest m = worded_read version_in_head source n ts rest m

@@ -47,7 +47,7 @@ is_control (Some keywords.ReservedValue) = true
 is_control (Some keywords.ReservedGroup) = true
 is_control _ = false
 
--- A text with a slash is none of these three keywords.
+-- A word with a slash is none of these three keywords.
 slash_apart : (text : List ℕ) (k : Option Keyword) → keyword_of text ≡ k → has_slash text ≡ true → is_control k ≡ false
 unfolding forms_of
 slash_apart text (Some keywords.Mode) e h = absurd (no_slash text keywords.Mode e refl refl h)

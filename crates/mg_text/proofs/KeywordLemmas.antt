@@ -1,4 +1,4 @@
--- Looking up a keyword among those that have a form starting with its first letter.
+-- Looking up a keyword among the keywords that have a form with the same first letter.
 use Rattle.std.proofs.Common.{◌≡◌, ℕ, Bool, true, false, ◌||◌, ◌==◌, cond, List, [], ◌∷◌, length, get_or, ◌<◌, Some, None, refl, sym, ap, ◌∙◌, arith}
 use Rattle.std.proofs.lemmas.Bool.{and_parts, true≢false}
 use Rattle.std.proofs.lemmas.Bool.Decides.{nat_tests}
@@ -14,7 +14,8 @@ use Rattle.mg_text.specs.Keyword.{forms_of, is_named, keywords, keyword_of}
 use Rattle.mg_text.specs.Grammar.{has_slash}
 use Rattle.mg_text.specs.aids.Keywords.{begins, can_begin, words_by}
 
--- Searching the filtered list finds the same element if the filter accepts each element that passes the test.
+-- If the filter accepts each element that passes the test, filtering a list does not change the element that a search
+-- finds. This is the step for one element.
 find_tests : {X : Type 0} (p : X → Bool) (x : X) (xs ys : List X) (a b : Bool) → (a ≡ true → b ≡ true) → p x ≡ a →
     find p ys ≡ find p xs → find p (cond b (x ∷ ys) ys) ≡ find p (x ∷ xs)
 find_tests p x xs ys true true h e rest = rw e refl
@@ -54,14 +55,14 @@ unfolding keyword_of is_named forms_of
 no_letter [] h = refl
 no_letter (b ∷ bs) h = absurd (omega arith)
 
--- Equal texts are equal ignoring case.
+-- Equal strings are also equal ignoring case.
 pub exact : (a b : List ℕ) → a ≡ b → str_eq_ignore_ascii_case a b ≡ true
 exact a b e = rw e (same_itself (str_to_ascii_lowercase b))
   where
     same_itself : (xs : List ℕ) → bytes_eq xs xs ≡ true
     same_itself xs = (bytes_eq-Decides xs xs).1 refl
 
--- ## What the word of a text says of the text
+-- ## Keywords and the strings that spell them
 
 pub found_passes : {X : Type 0} (p : X → Bool) (xs : List X) (x : X) → find p xs ≡ Some x → p x ≡ true
 found_passes p [] x e = absurd cc
@@ -72,7 +73,7 @@ found_passes p (y ∷ ys) x e = by_test (p y) refl e (found_passes p ys x)
     by_test true is e others = let same : y ≡ x = cc e in rw (sym same) is
     by_test false is e others = others e
 
--- A text is a form of the keyword that it spells.
+-- A string is a form of the keyword that it spells.
 pub named_is : (text : List ℕ) (k : Keyword) → keyword_of text ≡ Some k → is_named text k ≡ true
 unfolding keyword_of
 named_is text k e = found_passes (is_named text) keywords k e
@@ -81,7 +82,7 @@ pub either : {A : Type 0} (p q : Bool) → (p ≡ true → A) → (q ≡ true �
 either true q f g e = f refl
 either false q f g e = g e
 
--- A text that is a form of CONTEXT spells the keyword CONTEXT.
+-- A string that is a form of CONTEXT spells the keyword CONTEXT.
 pub context_is : (text : List ℕ) → is_named text Context ≡ true → keyword_of text ≡ Some Context
 unfolding keyword_of is_named forms_of
 context_is text e =
@@ -90,7 +91,7 @@ context_is text e =
     (λ long. let same = same_letters text forms.0 long in rw same (refl {a = Some Context}))
     (λ short. let same = same_letters text forms.1 short in rw same (refl {a = Some Context})) e
 
--- ## A byte that is no letter
+-- ## Marks in keywords
 
 module _ (mark : ℕ) (is_no_letter : (b : ℕ) → (to_ascii_lowercase b == mark) ≡ (b == mark)) where
   pub mark_in_lower : (text : List ℕ) →
@@ -102,7 +103,7 @@ module _ (mark : ℕ) (is_no_letter : (b : ℕ) → (to_ascii_lowercase b == mar
       list_any (λ c. c == mark) a ≡ list_any (λ c. c == mark) b
   same_mark a b e = sym (mark_in_lower a) ∙ ap (list_any (λ c. c == mark)) (same_letters a b e) ∙ mark_in_lower b
 
-  -- If the forms of a keyword do not contain the mark, a text that spells the keyword does not contain it.
+  -- If the forms of a keyword do not contain the mark, a string that spells the keyword does not contain it.
   pub markless : (text : List ℕ) (k : Keyword) → keyword_of text ≡ Some k →
       list_any (λ b. b == mark) (forms_of k).0 ≡ false → list_any (λ b. b == mark) (forms_of k).1 ≡ false →
       list_any (λ b. b == mark) text ≡ false
@@ -115,7 +116,7 @@ module _ (mark : ℕ) (is_no_letter : (b : ℕ) → (to_ascii_lowercase b == mar
 lower_slash : (b : ℕ) → (to_ascii_lowercase b == 47) ≡ (b == 47)
 lower_slash b = grind (arith, nat_tests)
 
--- If the forms of a keyword contain no slash, a text with a slash does not spell the keyword.
+-- If the forms of a keyword contain no slash, a string with a slash does not spell the keyword.
 pub no_slash : (text : List ℕ) (k : Keyword) → keyword_of text ≡ Some k → has_slash (forms_of k).0 ≡ false →
     has_slash (forms_of k).1 ≡ false → has_slash text ≡ true → ⊥
 no_slash text k e long short slash = true≢false (sym slash ∙ markless 47 lower_slash text k e long short)

@@ -16,7 +16,7 @@ use Rattle.mg_text.proofs.SoundItems.{text_found}
 use Rattle.mg_text.proofs.CompleteItems.{head_read, text_read}
 use Rattle.mg_text.proofs.ReadLemmas.{headed, told, at_most_one, served_counts, refused_counts}
 
--- ## At most one
+-- ## A datagram has at most one reading
 
 -- A head names at most one version.
 version_is : (n k : ℕ) (a b : List Token) → headed n a ≡ headed k b → n ≡ k
@@ -73,7 +73,7 @@ same_reading source NoMessage TooMany h k = absurd (many_or_none source k h)
 same_reading source NoMessage (OtherVersion n) h k = absurd (h.no_version n k)
 same_reading source NoMessage NoMessage h k = refl
 
--- ## At least one
+-- ## A datagram has at least one reading
 
 abbrev pub Readable : List ℕ → Type 0
 Readable source = (reading : MessageReading) × IsMessageReading source reading

@@ -1,4 +1,4 @@
--- Each request of a message has an action, the names of terminations are words of 1 to 64 bytes, and a topology has at
+-- Each request of a message has an action, and each name of a termination is a word of 1 to 64 bytes. A topology has at
 -- most 1,200 triples.
 use Rattle.std.proofs.Common.{◌≡◌, ℕ, ◌≤◌, ◌&&◌, nat_le, eqb, not, Bool, true, List, [], ◌∷◌, Option, Some, None, length, refl, inl, inr, arith}
 use Rattle.std.proofs.lemmas.Bool.{ne_eqb, le-leb, and_from}

@@ -80,7 +80,7 @@ only_cases m (Err (Syntax place)) g = absurd (cc g)
 only_cases m (Err (Version n)) g = absurd g
 only_cases m (Err TooMany) g = absurd g
 
--- The tree of the bytes is read, unless memory runs out.
+-- If the bytes have a tree, the tree is read, unless memory runs out.
 is_only : (source : List ℕ) (ts : List Token) (f : Option ScanFault) (r : Result Message ReadFault) →
     AreTokens source ts f → AgreesVersioned r (version_at source ts) (is_some f) (text_at source) → (m : Message) →
     IsTree source m → IsAnswered r (Ok m)
@@ -258,7 +258,7 @@ module _ (source : List ℕ) (ts : List Token) (f : Option ScanFault) (len : ℕ
   answer_version_only (Ok m) g n e = absurd (message_no_version (is_served m) m n e)
   answer_version_only (Err fault) g n e = is_version_only source ts f len fault short are g n e
 
--- Checking the limits preserves that the result is the wanted one or memory ran out.
+-- If the result is the wanted result, or memory ran out, then the same holds after the limits are checked.
 answered : (len : ℕ) (r want : Result Message ReadFault) → IsAnswered r want →
     IsAnswered (answer_of len r) (answer_of len want)
 answered len r want (inl none) = inl (ap (answer_of len) none)

@@ -11,7 +11,7 @@ use Rattle.mg_words.specs.Numbers.{decimal_of}
 use Rattle.mg_words.specs.Address.{address_of}
 use Rattle.mg_text.specs.Sender.{is_sender, is_domain, is_address, is_port_part, is_host}
 
--- A text that is cut at a byte is as long as its two parts and that byte.
+-- Text that is split at a byte is as long as its two parts and that byte.
 parts_join : (text : List ℕ) (n : ℕ) (parts : List ℕ × List ℕ) → cut_at text n ≡ Some parts →
     length text ≡ length parts.0 + length parts.1 + 1
 parts_join text n parts e = grind (arith, nat_tests, length-take {A = ℕ}, length-drop {A = ℕ})
@@ -63,7 +63,7 @@ port_short : (text : List ℕ) → is_port_part text ≡ true → length text �
 port_short [] h = omega arith
 port_short (b ∷ port) h = omega (arith, decimal_short 5 65535 port (if_both (eqb b 58) _ h))
 
--- The text after the opening bracket is short, since both its parts are.
+-- The text after the opening bracket has at most 22 bytes: an address, the closing bracket and a port part.
 address_parts_short : (rest : List ℕ) (parts : Option (List ℕ × List ℕ)) → cut 93 rest ≡ parts →
     is_host is_address parts ≡ true → length rest ≤ 22
 address_parts_short rest None e h = absurd (false≢true h)
@@ -81,7 +81,7 @@ domain_parts_short rest (Some parts) e h =
     let two = and_parts (is_domain parts.0) (is_port_part parts.1) h in
     omega (arith, cut_joins 62 rest parts e, domain_short parts.0 two.0, port_short parts.1 two.1)
 
--- A sender's name is short, since each of its three forms is.
+-- A sender's name has at most 72 bytes, since the length of each of its three forms is limited.
 kind_short : (n : ℕ) (in_brackets in_angles address domain device : Bool)
     → (address ≡ true → n ≤ 22) → (domain ≡ true → n ≤ 71) → (device ≡ true → n + 1 ≤ 64)
     → cond in_brackets address (cond in_angles domain device) ≡ true → n + 1 ≤ 72

@@ -106,7 +106,7 @@ named_found source keyword ts rest e =
     let g = guard_ok (is_named (text_of source w.0.0) keyword) w.0.0.start w.0.1 rest w.2 in
     (w.0.0, g.0, subst (λ (r : List Token). IsWord w.0.0 ts r) g.1 (word_found source ts w.0 w.1))
 
--- The result is that of one branch or the other.
+-- The result of `if_some` is the result of one of its two branches.
 pub if_some_ok : {A B : Type 0} (o : Option A) (f : A → Result B ℕ) (b : Result B ℕ) (y : B) → if_some o f b ≡ Ok y →
     ((a : A) × (o ≡ Some a) × (f a ≡ Ok y)) ⊎ ((o ≡ None) × (b ≡ Ok y))
 if_some_ok None f b y e = inr (refl, e)

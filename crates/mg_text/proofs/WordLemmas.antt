@@ -31,7 +31,7 @@ use Rattle.mg_words.proofs.CutLemmas.{same_letters}
 use Rattle.mg_text.proofs.KeywordLemmas.{found_passes, mark_in_lower, markless}
 use Rattle.mg_scan.specs.declared.token.Token.{Token}
 
--- ## Values by long forms
+-- ## The values of keywords by their long forms
 
 -- A keyword has the value x if and only if its long form is the text of x.
 module _ {X : Type 0} (text : X → List ℕ) (all : List X) (named : Keyword → Option X)
@@ -159,14 +159,14 @@ short_dashless _ = refl
 dashless : (text : List ℕ) (k : Keyword) → keyword_of text ≡ Some k → has_dash text ≡ false
 dashless text k e = markless 45 lower_dash text k e (long_dashless k) (short_dashless k)
 
--- A text with a dash is not a keyword.
+-- A string with a dash is not a keyword.
 no_keyword : (text : List ℕ) (o : Option Keyword) → keyword_of text ≡ o → has_dash text ≡ true → keyword_of text ≡ None
 no_keyword text None e h = e
 no_keyword text (Some k) e h = absurd (true≢false (sym h ∙ dashless text k e))
 
 -- ## Prefixes of commands
 
--- A text with a prefix starts with that prefix, ignoring case, and continues with the rest.
+-- If a prefix is split off a string, the string starts with that prefix, ignoring case, and continues with the rest.
 front_is : (prefix text rest : List ℕ) → after_prefix prefix text ≡ Some rest →
     (str_to_ascii_lowercase (take (length prefix) text) ≡ str_to_ascii_lowercase prefix)
     × (drop (length prefix) text ≡ rest)
@@ -210,7 +210,7 @@ unfolding first_or_zero
 begin_alike [] m n a b xs ys p q = absurd cc
 begin_alike (c ∷ cs) m n a b xs ys p q = sym (ap first_or_zero p) ∙ ap first_or_zero q
 
--- If a text starts with O-W-, the text after O- has a dash.
+-- If a word starts with O-W-, the part after O- has a dash.
 dash_after : (text : List ℕ) → str_to_ascii_lowercase (take 4 text) ≡ 111 ∷ 45 ∷ 119 ∷ 45 ∷ [] →
     has_dash (drop 2 text) ≡ true
 dash_after [] h = absurd cc
@@ -248,7 +248,7 @@ unfolding after_prefix
 after_nothing [] = refl
 after_nothing (b ∷ bs) = refl
 
--- ## Commands by both
+-- ## Commands by prefix and keyword
 
 abbrev head : CommandWord → Bool → Bool → CommandHead
 head word optional wildcard = record { word = word; is_optional = optional; wants_wildcard = wildcard }

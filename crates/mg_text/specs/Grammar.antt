@@ -175,7 +175,7 @@ abbrev pub IsAudit : List ℕ → List AuditWord → Production
 IsAudit source xs =
     IsName source keywords.Audit ▹ IsAnyBraced (IsWorded (by_keyword audit_word_named) source) xs
 
--- The rest of another descriptor: [group | "=" group | "=" Word [group]]. The flag says whether the descriptor has
+-- The rest of an `other` descriptor: [group | "=" group | "=" Word [group]]. The flag says whether the descriptor has
 -- content. A bare keyword or empty braces do not count as content.
 abbrev pub IsOtherContent : Bool → Production
 IsOtherContent false = IsContent false

@@ -1,4 +1,4 @@
--- The keywords of the encoding, in two forms, ignoring case (RFC 3525, Annex B.2).
+-- The keywords of the encoding (RFC 3525, Annex B.2). Each has two forms; case is ignored.
 use Rattle.std.specs.Prelude.{ℕ, Bool, ◌||◌, List, [], ◌∷◌, Option, find, codes}
 use Rattle.std.specs.Option.{option_map}
 use Rattle.std.specs.Str.{str_eq_ignore_ascii_case}

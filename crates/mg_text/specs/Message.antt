@@ -16,7 +16,7 @@ use Rattle.mg_text.specs.declared.message.Message.{Message}
 use Rattle.mg_text.specs.Head.{version_in_head}
 use Rattle.mg_text.specs.Grammar.{IsText, IsWorded}
 
--- Scanning these tokens leads from the old state of the scanner to the new one.
+-- Scanning these tokens leads from the old state of the scanner to the new state.
 abbrev pub Reaches : Scanning → List Token → Scanning → Type 0
 Reaches old [] new = old ≡ new
 Reaches old (t ∷ ts) new =
@@ -31,14 +31,14 @@ pub record AreTokens (source : List ℕ) (ts : List Token) (fault : Option ScanF
   pub way : Reaches (scanning_of source) ts last
   pub end : first_token last.named (rest_of last) ≡ option_map Err fault
 
--- The bytes, of which there are at most 8192, follow the grammar and have this tree.
+-- The bytes follow the grammar and have this tree. There are at most 8192 bytes.
 pub record IsTree (source : List ℕ) (m : Message) : Type 0 where
   pub short : length source ≤ message_limit
   pub tokens : List Token
   pub are : AreTokens source tokens None
   pub is : IsText source m tokens
 
--- The number of requests among the items, and the total number of commands in these requests.
+-- These definitions count the requests among the items, and the commands in these requests.
 abbrev pub requests_in : List MessageItem → ℕ
 requests_in [] = 0
 requests_in (items.Request x ∷ xs) = 1 + requests_in xs

@@ -2,7 +2,7 @@
 use Rattle.std.specs.Prelude.{◌≡◌, ◌⊎◌, List}
 use Rattle.mg_scan.specs.declared.token.Token.{Token}
 
--- A relation between some tokens and those that remain after a part at their start.
+-- Relates a list of tokens to the tokens that remain after a part is parsed from its front.
 abbrev pub Production : Type 1
 Production = List Token → List Token → Type 0
 

@@ -1,5 +1,5 @@
--- Properties that reading ensures for requests: each has an action, each name of a termination is a word of 1 to 64
--- bytes, and a topology has at most 1,200 triples.
+-- Properties that reading ensures for requests. Each request has an action, and each name of a termination is a word of
+-- 1 to 64 bytes. A topology has at most 1,200 triples.
 use Rattle.std.specs.Prelude.{ℕ, ◌==◌, Bool, true, ◌&&◌, not, nat_le, List, length}
 use Rattle.std.specs.List.{list_all}
 use Rattle.mg_scan.specs.Span.{text_of}

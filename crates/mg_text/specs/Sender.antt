@@ -21,7 +21,7 @@ is_domain text =
 abbrev pub is_address : List ℕ → Bool
 is_address text = is_some (address_of text)
 
--- Whether a text is empty, or a colon and a port.
+-- Whether text is empty, or is a colon and a port.
 abbrev pub is_port_part : List ℕ → Bool
 is_port_part [] = true
 is_port_part (b ∷ port) = if b == 58 then is_some (port_of port) else false
@@ -30,7 +30,7 @@ is_port_part (b ∷ port) = if b == 58 then is_some (port_of port) else false
 abbrev pub is_host : (List ℕ → Bool) → Option (List ℕ × List ℕ) → Bool
 is_host test parts = option_map_or (λ p. test p.0 && is_port_part p.1) parts false
 
--- Whether a text names a sender: [address] or <domain name>, each with an optional port, or a device name of 1 to 64
+-- Whether a word names a sender: [address] or <domain name>, each with an optional port, or a device name of 1 to 64
 -- bytes.
 abbrev pub is_sender : List ℕ → Bool
 is_sender [] = false

@@ -14,7 +14,7 @@ use Rattle.mg_text.specs.declared.descriptor.AuditWord.TheVariants as audits
 use Rattle.mg_text.specs.declared.body.Range.{Range}
 use Rattle.mg_text.specs.Keyword.{keyword_of}
 
--- The value of a text that is a keyword in either form.
+-- The value of a word that is a keyword in either form.
 abbrev pub by_keyword : {X : Type 0} → (Keyword → Option X) → List ℕ → Option X
 by_keyword meaning text = option_and_then meaning (keyword_of text)
 

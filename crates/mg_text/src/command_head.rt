@@ -13,7 +13,7 @@ pub struct CommandHead {
     pub wants_wildcard: bool,
 }
 
-/// Returns the command that a keyword stands for, or `None` if it isn't a command's keyword.
+/// Returns the command that a keyword names, or `None` if it isn't a command's keyword.
 fn command_named(keyword: Keyword) -> Option<CommandWord>
     ensures value { result ≡ command_named keyword }
 {
@@ -30,7 +30,8 @@ fn command_named(keyword: Keyword) -> Option<CommandWord>
     }
 }
 
-/// Returns the command that a keyword stands for, with its prefixes, or `None` if it isn't a command's keyword.
+/// Returns the command that a keyword names, together with these prefixes. Returns `None` if it isn't a command's
+/// keyword.
 fn headed(is_optional: bool, wants_wildcard: bool, keyword: Keyword) -> Option<CommandHead>
     ensures value { result ≡ headed is_optional wants_wildcard keyword }
 {

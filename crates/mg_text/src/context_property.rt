@@ -25,6 +25,6 @@ pub enum ContextProperty {
     ContextAudit(TreeList<ContextWord>),
     /// The span of the priority.
     Priority(Span),
-    /// The span of the word after the equals sign, if there is one.
+    /// The span of the word after the equals sign, or `None` if there is no equals sign.
     Emergency(Option<Span>),
 }

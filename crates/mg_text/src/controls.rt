@@ -37,7 +37,7 @@ fn value_at<'t>(
     }
 }
 
-/// Parses an equals sign and the value of a package's property, if there is an equals sign.
+/// Parses the optional value of a package's property: an equals sign and the value.
 #[tactic(auto, unfolding(crate::specs::aids::Media::optional_value_at))]
 fn optional_value_at<'t>(
     source: &[u8],

@@ -110,7 +110,7 @@ fn audit_at<'t>(
     }
 }
 
-/// Parses an Audit in braces, if there are braces.
+/// Parses an optional Audit in braces.
 #[tactic(auto, unfolding(crate::specs::aids::Commands::optional_audit_at))]
 pub fn optional_audit_at<'t>(
     alloc: Global,
@@ -128,7 +128,7 @@ pub fn optional_audit_at<'t>(
     Ok((TreeList::new(audit), rest))
 }
 
-/// Skips a group, if there is one. Returns no descriptors.
+/// Skips an optional group. Returns no descriptors.
 #[tactic(auto, unfolding(crate::specs::aids::Commands::skipped_at))]
 pub fn skipped_at<'t>(
     alloc: Global,

@@ -34,7 +34,7 @@ pub fn group_at<'t>(source: &[u8], tokens: &'t [Token]) -> Result<&'t [Token], R
     after_group(source, tokens)
 }
 
-/// Skips a group, if there is one. Returns whether the group contains a token.
+/// Skips an optional group. Returns whether the group contains a token.
 #[tactic(auto, unfolding(crate::specs::aids::Reading::filled_at))]
 pub fn filled_at<'t>(source: &[u8], tokens: &'t [Token]) -> Result<(bool, &'t [Token]), ReadFault>
     ensures { Agrees (λ x. (x.0, x.1.now)) result (filled_at source.now tokens.now) }

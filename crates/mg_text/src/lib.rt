@@ -10,7 +10,7 @@
 //! ```
 //!
 //! A message is read completely or not at all. The tree keeps requests and acknowledgements in order, including
-//! repeated ones. Replies, Pending items and an Error body are parsed but not kept.
+//! duplicates. Replies, Pending items and an Error body are parsed but not kept.
 #![tactic(auto)]
 
 mod actions;

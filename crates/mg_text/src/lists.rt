@@ -71,7 +71,7 @@ pub fn braced_at<'t, T: FromTokens>(
     items_at(alloc, source, rest)
 }
 
-/// Parses items in braces. There may be none.
+/// Parses any number of items in braces.
 #[tactic(auto, unfolding(crate::specs::aids::Reading::any_braced_at))]
 pub fn any_braced_at<'t, T: FromTokens>(
     alloc: Global,
@@ -87,7 +87,7 @@ pub fn any_braced_at<'t, T: FromTokens>(
     items_at(alloc, source, inside)
 }
 
-/// Parses items in braces, if there are braces.
+/// Parses optional items in braces.
 #[tactic(auto, unfolding(crate::specs::aids::Reading::optional_braced_at))]
 pub fn optional_braced_at<'t, T: FromTokens>(
     alloc: Global,

@@ -7,7 +7,7 @@ use crate::keyword::{Keyword, is_named};
 use mg_scan::{Span, Token, TokenKind, after_mark, is_kind};
 use mg_words::is_term;
 
-/// Returns the offset of the first token, or the end of the source if there is none.
+/// Returns the offset of the first token, or the end of the source if no token is left.
 pub fn place_of(source: &[u8], tokens: &[Token]) -> usize
     ensures value { result ≡ place_of_rest source.now tokens.now }
 {

@@ -20,7 +20,7 @@ pub enum ControlPart {
     ReservedValue(bool),
     /// Whether the value is `ON`.
     ReservedGroup(bool),
-    /// A package's property: the span of its name, and its value if there is one.
+    /// A package's property: the span of its name, and its optional value.
     Property(Span, Option<PropertyValue>),
 }
 

@@ -8,7 +8,7 @@ use Rattle.mg_topology.specs.Triple.{is_forward, mentions, overlaps}
 use Rattle.mg_topology.specs.Edits.{TopologyEdit, Enter, Leave, Apply, last_word, touches}
 use Rattle.mg_topology.proofs.TripleLemmas.{overlaps-is}
 
--- Newer edits that do not touch a pair keep its last word.
+-- The last word on a pair stays the same after newer edits that do not touch the pair.
 pub last_word-append : (newer older : List TopologyEdit) (a b : ℕ) → list_any (λ edit. touches edit a b) newer ≡ false →
     last_word (newer ++ older) a b ≡ last_word older a b
 last_word-append [] older a b p = refl

@@ -67,7 +67,7 @@ below_limit a s p h =
       | inr above ↦ absurd (false≢true (sym (has_seat-above a s p above) ∙ h))
     ]
 
--- The empty mask contains no seat, and the full mask contains every seat below the limit.
+-- By these lemmas, the empty mask contains no seat, and the full mask contains every seat below the limit.
 pub has_seat-empty : (s : ℕ) → has_seat 0 s ≡ false
 unfolding has_seat
 has_seat-empty s = ap (λ n. n == 1) (bit_at-zero s)

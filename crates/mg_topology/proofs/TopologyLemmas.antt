@@ -127,8 +127,7 @@ apply_all-more triples i triple es p e =
 
 -- ---- what a topology tells
 
--- The row of a held listener, without itself and the seats that are not held, contains the talkers that the listener
--- hears.
+-- A held listener hears the talkers in its row, except itself and seats that are not held.
 pub row_tells : (k : TopologyState) (t l : ℕ) (b : Bool) → k.held < 2 ^ SEATS → holds k l ≡ true
     → b ≡ cond (t == l) false (has_seat (slice_index k.rows l) t && has_seat k.held t) → b ≡ hears k t l
 row_tells k t l b p q e = grind (arith, nat_tests, has_seat-inside k.held t p)

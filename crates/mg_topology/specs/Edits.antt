@@ -1,5 +1,5 @@
--- The edits of one context, newest first, and what follows from them (RFC 3525, section 7.1.18).
--- That a newcomer and each member hear each other is this project's own rule.
+-- The edits of one context, newest first, and what follows from them (RFC 3525, section 7.1.18). The rule that a
+-- newcomer and every member hear each other is this project's own.
 use Rattle.std.specs.Prelude.{ℕ, Bool, true, false, not, ◌&&◌, ◌||◌, ◌==◌, Option, Some, None}
 use Rattle.std.specs.Prelude.{if◌then◌else◌, List, [], ◌∷◌}
 use Rattle.mg_topology.specs.Triple.{mentions, word_of}
@@ -18,7 +18,8 @@ is_held (Enter n ∷ es) seat = if seat == n then true else is_held es seat
 is_held (Leave n ∷ es) seat = if seat == n then false else is_held es seat
 is_held (Apply triple ∷ es) seat = is_held es seat
 
--- The last word on a pair: the last triple to mention the pair since both members entered, if there is one.
+-- The last word on a pair: the last triple that has mentioned the pair since both members entered, or `None` without
+-- such a triple.
 abbrev pub last_word : List TopologyEdit → ℕ → ℕ → Option Triple
 last_word [] a b = None
 last_word (Enter n ∷ es) a b = if (a == n) || (b == n) then None else last_word es a b

@@ -2,9 +2,9 @@
 //!
 //! Each member of a context has a seat, a number below [`SEATS`]. A [`Topology`] records which seats are held and, for
 //! each pair, the last word on that pair. The last word is the last [`Triple`] of a topology descriptor (RFC 3525,
-//! section 7.1.18) to mention the pair since both members entered. Without a last word, the two hear each other. So a
-//! newcomer hears everyone and is heard by everyone, whatever triples named its seat before; that is this project's own
-//! rule.
+//! section 7.1.18) that has mentioned the pair since both members entered. Without a last word, the two hear each
+//! other. So a newcomer hears everyone and is heard by everyone, whatever triples named its seat before; that is this
+//! project's own rule.
 //!
 //! ```rust
 //! let mut topology = Topology::new();

@@ -50,7 +50,7 @@ pub fn without_seat(mask: Mask, seat: usize) -> Mask
     requires { seat < SEATS }
     ensures seats { (s : ℕ) → has_seat result s ≡ (if s == seat then false else has_seat mask s) }
 
-    // Removing seats one after another ends, because the mask becomes smaller and has one seat less each time.
+    // A loop that removes seats ends: each removal makes the mask a smaller number, with one seat less.
     ensures smaller { IsTrue (has_seat mask seat) → result < mask }
     ensures fewer { IsTrue (has_seat mask seat) → seat_count mask ≡ seat_count result + 1 }
     ensures rest { IsLowest mask seat → seats_of mask ≡ seat ∷ seats_of result }
@@ -58,7 +58,7 @@ pub fn without_seat(mask: Mask, seat: usize) -> Mask
     difference(mask, of_seat(seat))
 }
 
-/// Returns the set with the seat added if `is_in`, and removed otherwise.
+/// Returns the set with the seat added if `is_in` is true, or removed if `is_in` is false.
 pub fn set_seat(mask: Mask, seat: usize, is_in: bool) -> Mask
     requires { seat < SEATS }
     ensures { (s : ℕ) → has_seat result s ≡ (if s == seat then is_in else has_seat mask s) }
@@ -109,7 +109,7 @@ pub fn seats(mask: Mask) -> Seats
     Seats::new(mask)
 }
 
-/// Returns the lowest seat of the set, or `None` if it is empty.
+/// Returns the lowest seat of the set, or `None` if the set is empty.
 ///
 /// To walk a set that changes during the walk, remove its lowest seat with [`without_seat`] until none is left.
 pub fn first_seat(mask: Mask) -> Option<usize>

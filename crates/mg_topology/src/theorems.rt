@@ -83,7 +83,7 @@ pub fn overlap_is_a_common_seat()
         IsTrue (list_any overlaps triples) ↔ Any Overlaps triples }
 {}
 
-/// The empty mask contains no seat, the full one contains every seat, and no mask contains a seat at or above the
+/// The empty mask contains no seat, the full mask contains every seat, and no mask contains a seat at or above the
 /// limit.
 ///
 /// Masks with the same seats are equal.

@@ -41,7 +41,7 @@ impl Topology {
         }
     }
 
-    /// Returns whether the seat is held. Seats at or above [`SEATS`] are not.
+    /// Returns whether the seat is held. Seats at or above [`SEATS`] are never held.
     pub fn holds(&self, seat: usize) -> bool
         ensures kept { result ≡ holds self.now seat }
         ensures edits { (es : List TopologyEdit) → StandsFor self.now es → result ≡ is_held es seat }
@@ -83,7 +83,7 @@ impl Topology {
         self.held = mask::without_seat(self.held, seat);
     }
 
-    /// Applies triples in order, so the last one to mention a pair wins.
+    /// Applies triples in order, so the last triple that mentions a pair wins.
     ///
     /// If the two sets of a Oneway triple share a seat, no triple is applied.
     pub fn apply(&mut self, triples: &[Triple]) -> Result<(), Overlap>

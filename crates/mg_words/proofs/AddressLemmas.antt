@@ -1,4 +1,4 @@
--- The lengths of the parts of an address in dotted decimal.
+-- Rules that bound the length of an address in dotted decimal.
 use Rattle.std.proofs.Common.{append_assoc}
 use Rattle.mg_words.proofs.DecimalLemmas.{byte_short}
 

@@ -1,4 +1,4 @@
--- Lemmas about splitting a text at a byte, and about prefixes, ignoring case.
+-- Lemmas about splitting text at a byte, and about prefixes whose case is ignored.
 use Rattle.std.proofs.Common.{◌≡◌, ◌≢◌, ℕ, ◌+◌, ◌<◌, ◌&&◌, ◌==◌, Bool, true, false, List, [], ◌∷◌, length, take, drop, Some, None, refl, arith, ◌∙◌, ap}
 use Rattle.std.proofs.lemmas.List.{drop-drop, length-take}
 use Rattle.std.specs.Char.{to_ascii_lowercase}
@@ -28,7 +28,7 @@ and_false : (p : Bool) → (p && false) ≡ false
 and_false true = refl
 and_false false = refl
 
--- Two texts are equal ignoring case if and only if they are equal in lower case.
+-- These lemmas show that two strings are equal ignoring case if and only if they are equal in lower case.
 pub same_letters : (a b : List ℕ) → str_eq_ignore_ascii_case a b ≡ true →
     str_to_ascii_lowercase a ≡ str_to_ascii_lowercase b
 same_letters a b h = (bytes_eq-Decides (str_to_ascii_lowercase a) (str_to_ascii_lowercase b)).0 h
@@ -37,7 +37,7 @@ pub letters_same : (a b : List ℕ) → str_to_ascii_lowercase a ≡ str_to_asci
     str_eq_ignore_ascii_case a b ≡ true
 letters_same a b h = (bytes_eq-Decides (str_to_ascii_lowercase a) (str_to_ascii_lowercase b)).1 h
 
--- Texts of different lengths are not equal, even ignoring case.
+-- Strings of different lengths are not equal, even ignoring case.
 pub same_len : (a b : List ℕ) → length a ≢ length b → str_eq_ignore_ascii_case a b ≡ false
 same_len [] [] ne = absurd (ne refl)
 same_len [] (y ∷ b) ne = refl
@@ -46,7 +46,7 @@ same_len (x ∷ a) (y ∷ b) ne =
     let rest : str_eq_ignore_ascii_case a b ≡ false = same_len a b (omega arith) in
     rw rest (and_false (to_ascii_lowercase x == to_ascii_lowercase y))
 
--- A text that is shorter than a prefix does not start with the prefix.
+-- A string that is shorter than a prefix does not start with the prefix.
 pub too_short : (prefix text : List ℕ) → length text < length prefix →
     str_eq_ignore_ascii_case (take (length prefix) text) prefix ≡ false
 too_short prefix text lt = same_len (take (length prefix) text) prefix

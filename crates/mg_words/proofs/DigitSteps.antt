@@ -9,8 +9,8 @@ use Rattle.std.specs.Int.Digits.{number_from_digits_after}
 use Rattle.std.specs.Prelude.{if◌then◌else◌, nat_le}
 use Rattle.mg_words.specs.Numbers.{decimal_of}
 
--- The value of the digits in a list after digits with the value n. It is `None` if the value exceeds the limit or a
--- byte is not a digit.
+-- The value of a number that starts with digits of value n and continues with the digits in the list. It is `None` if
+-- the value exceeds the limit or a byte is not a digit.
 unfoldable pub value_after : ℕ → ℕ → List ℕ → Option ℕ
 value_after limit n [] = Some n
 value_after limit n (d ∷ ds) = if is_ascii_digit d && nat_le (10 * n + (d - 48)) limit then
@@ -69,7 +69,7 @@ value_after_is limit [] m small = rw (le-leb _ _ small) refl
 value_after_is limit (d ∷ text) m small = digit_is limit (is_ascii_digit d) (leb (10 * m + (d - 48)) limit) d m text
     refl refl (value_after_is limit text)
 
--- If a text is not empty and not too long, reading its digits one by one computes `decimal_of`.
+-- For text that is neither empty nor too long, reading the digits one by one computes `decimal_of`.
 pub decimal_is : (most limit : ℕ) (text : List ℕ) → 0 < length text → length text ≤ most →
     value_after limit 0 text ≡ decimal_of most limit text
 decimal_is most limit text some fits = rw (ne_eqb (length text) 0 (λ e. absurd (omega arith)), le-leb _ _ fits)

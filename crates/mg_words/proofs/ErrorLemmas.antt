@@ -1,4 +1,4 @@
--- The length of an error descriptor, by its parts.
+-- Rules that bound the length of an error descriptor.
 use Rattle.std.proofs.Common.{ℕ, ◌<◌, ◌≤◌, length, append_assoc, arith, decimal}
 use Rattle.std.proofs.lemmas.Fmt.{length-decimal-le}
 

@@ -1,4 +1,4 @@
--- `RTP/` and a number of 32 bits is a valid termination name.
+-- `RTP/` followed by a number of 32 bits is a valid termination name.
 use Rattle.std.proofs.Common.{◌≡◌, ℕ, ◌^◌, ◌<◌, true, false, leb, eqb, List, [], ◌∷◌, length, refl, arith, decimal}
 use Rattle.std.specs.List.{list_all}
 use Rattle.std.specs.Char.{is_ascii_digit}

@@ -12,7 +12,7 @@ cut_at text n = if nat_lt n (length text) then Some (take n text, drop (n + 1) t
 abbrev pub cut : ℕ → List ℕ → Option (List ℕ × List ℕ)
 cut byte text = cut_at text (position_or_len (λ b. b == byte) text)
 
--- The text after a prefix, ignoring case, if the text starts with the prefix.
+-- The text after a prefix, if the text starts with the prefix. Case is ignored.
 unfoldable pub after_prefix : List ℕ → List ℕ → Option (List ℕ)
 after_prefix prefix text =
     if str_eq_ignore_ascii_case (take (length prefix) text) prefix

@@ -1,19 +1,20 @@
--- The limits of this gateway. Definitions refer to them by name and repeat none as a number. A 2^32 or 4294967295 in
--- another definition means the range of 32 bits.
+-- The limits of this gateway. Other definitions use the names of these limits, not their numbers. A 2^32 or 4294967295
+-- in another definition means the range of 32 bits.
 use Rattle.std.specs.Prelude.{ℕ}
 
 -- The maximum number of members in a context.
 abbrev pub member_limit : ℕ
 member_limit = 64
 
--- The maximum number of contexts in a gateway, and of terminations in all of them.
+-- The maximum number of contexts in a gateway (`context_limit`), and of terminations in a gateway
+-- (`termination_limit`).
 abbrev pub context_limit : ℕ
 context_limit = 64
 
 abbrev pub termination_limit : ℕ
 termination_limit = 256
 
--- The minimum and maximum depth of a play list, in frames, and the depth of a new play list.
+-- The minimum (`least_depth`), maximum (`greatest_depth`) and initial depth (`first_depth`) of a play list, in frames.
 abbrev pub least_depth : ℕ
 least_depth = 2
 
@@ -27,7 +28,7 @@ first_depth = 4
 abbrev pub message_limit : ℕ
 message_limit = 8192
 
--- The maximum number of requests in a message, and of commands in all of them.
+-- The maximum number of requests in a message (`request_limit`), and of commands in a message (`command_limit`).
 abbrev pub request_limit : ℕ
 request_limit = 4
 

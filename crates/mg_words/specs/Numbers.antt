@@ -9,11 +9,11 @@ use Rattle.std.specs.Int.Digits.{number_from_digits}
 abbrev pub value_of_digits : List ℕ → ℕ
 value_of_digits text = number_from_digits 10 (map (λ c. c - 48) text)
 
--- Whether a text consists of one to `most` digits.
+-- Whether a string consists of one to `most` digits.
 abbrev pub are_digits : ℕ → List ℕ → Bool
 are_digits most text = not (length text == 0) && nat_le (length text) most && all_ascii_digits text
 
--- The value of a text of one to `most` digits, if it is at most the limit.
+-- The value of a string of one to `most` digits, if the value is at most the limit.
 abbrev pub decimal_of : ℕ → ℕ → List ℕ → Option ℕ
 decimal_of most limit text =
     if are_digits most text && nat_le (value_of_digits text) limit

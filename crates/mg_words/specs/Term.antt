@@ -4,7 +4,7 @@ use Rattle.std.specs.List.{list_all}
 use Rattle.mg_words.specs.Limits.{name_limit}
 use Rattle.mg_words.specs.WordByte.{is_word_byte}
 
--- Whether a text is a word of 1 to 64 bytes.
+-- Whether a string is a word of 1 to 64 bytes.
 abbrev pub is_term : List ℕ → Bool
 is_term text =
     not (length text == 0) && nat_le (length text) name_limit && list_all is_word_byte text

@@ -25,7 +25,7 @@ pub enum ErrorNumber {
     IllegalCombination,
     /// No termination has this name.
     UnknownTermination,
-    /// A command names all terminations of a context that has none.
+    /// A command names all terminations of a context that has no terminations.
     WildcardMatchedNone,
     /// No slot is free, or termination numbers are exhausted.
     NoTerminationLeft,

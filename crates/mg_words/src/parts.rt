@@ -18,7 +18,7 @@ pub fn cut(byte: u8, text: &[u8]) -> Option<(&[u8], &[u8])>
     }
 }
 
-/// Returns the rest of `text` after a prefix, ignoring case. Returns `None` if `text` does not start with it.
+/// Returns the rest of `text` after a prefix, ignoring case. Returns `None` if `text` does not start with the prefix.
 #[tactic(auto, unfolding(crate::specs::Cut::after_prefix), using(crate::proofs::CutLemmas::too_short))]
 pub fn after_prefix<'a>(prefix: &[u8], text: &'a [u8]) -> Option<&'a [u8]>
     ensures value { MatchOption result (after_prefix prefix.now text.now ≡ None)

@@ -57,8 +57,8 @@ with_name source c parameters name run =
 abbrev pub and_then : (ActionState → ActionState × Bool) → ActionState × Bool → ActionState × Bool
 and_then rest (run, is_done) = ((rest run).0, is_done && (rest run).1)
 
--- The action after a command for each name, and whether all succeeded. A failure for one name does
--- not stop the others.
+-- The action after a command for each name, and whether the command succeeded for all names. A failure for one name
+-- does not stop the others.
 unfoldable pub with_names : List ℕ → Command → CommandParameters → List Name → ActionState
     → ActionState × Bool
 with_names source c parameters [] run = (run, true)
@@ -85,7 +85,8 @@ abbrev pub continue_with : (ActionState → ActionState × Bool) → ActionState
 continue_with rest (run, true) = rest run
 continue_with rest (run, false) = (run, false)
 
--- The action after its commands, up to the first non-optional one that fails, and whether all of those succeeded.
+-- The action after its commands, which stop at the first non-optional command that fails. The flag says whether all
+-- non-optional commands succeeded.
 unfoldable pub with_commands : List ℕ → List Command → ActionState → ActionState × Bool
 with_commands source [] run = (run, true)
 with_commands source (c ∷ cs) run =

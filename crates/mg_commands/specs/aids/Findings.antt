@@ -36,7 +36,7 @@ asked_with source a x =
 abbrev pub nothing_found : Findings
 nothing_found = record { parameters = no_parameters; fault = None }
 
--- The earlier findings if there is a fault, otherwise the new ones.
+-- The earlier findings if there is a fault, otherwise the new findings.
 abbrev pub unless_faulty : Option ErrorNumber → (before after : Findings) → Findings
 unless_faulty (Some e) before after = before
 unless_faulty None before after = after
@@ -50,7 +50,7 @@ with_part source a x = unless_faulty a.fault a (record {
 abbrev pub with_parts : List ℕ → Findings → List Part → Findings
 with_parts source a xs = fold (with_part source) a xs
 
--- The parts were read up to the first fault, if there is one.
+-- The parts were read up to the first fault or, without a fault, to the end.
 pub record Reads (source : List ℕ) (fault : Option ErrorNumber) (xs : List Part)
     (old new : Findings) (result : Option ErrorNumber) : Type 0 where
   pub value : result ≡ fault

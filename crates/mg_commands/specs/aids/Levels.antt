@@ -60,7 +60,7 @@ media_level source before (media.Stream n xs) = first_after (stream_level source
 media_level source before (media.TerminationState has_content) =
     fault_of (list_any is_state before) (parts.TerminationState has_content)
 
--- The stream that a part of a Media descriptor belongs to, or 0 if it belongs to none.
+-- The stream that a part of a Media descriptor belongs to, or 0 if the part belongs to no stream.
 abbrev pub stream_of : MediaPart → ℕ
 stream_of (media.Part x) = 1
 stream_of (media.Stream n xs) = n

@@ -61,8 +61,7 @@ pub record IsTransaction (base : Base) (kept : TransactionKept) (s : ActionsStat
   pub reply : kept.reply ≡ after_all base.reply s.items
   pub work : IsPaid base s.items kept.engine
 
--- The properties of an action were reported, and the engine represents the gateway after them,
--- according to their outcome.
+-- The outcome of an action's properties was reported, and the engine represents the gateway after this outcome.
 abbrev pub ReportsProperties : EngineState → Answered → Answered → Bool → Gateway
     → Result (Gateway × List Item) ErrorNumber → Type 0
 ReportsProperties kept before reported is_done w (Ok p) =

@@ -52,7 +52,7 @@ audit_termination w target name parameters = do
   r ← member w.rooms target n
   Ok (served_at w target r (descriptors_by_audit parameters))
 
--- An action, given the error with which it is rejected as a whole, if there is one.
+-- The result of an action, given the error that rejects the action as a whole, or `None`.
 abbrev pub action_unless : Option ErrorNumber → List ℕ → Action → ActionsState
     → ActionsState × Bool
 action_unless fault source a s =

@@ -23,7 +23,7 @@ pub record AreJoined (w : Registry) (joined : List (Option ℕ)) : Type 0 where
   pub nobody : (row room : ℕ) → room_of_row joined row ≡ Some room
       → (n : ℕ) × (r : Record) × (p : Place) × IsOnPlace w n r p × (r.slot ≡ row)
 
--- The row is joined to this room, or to none, and all other rows are unchanged.
+-- The row is joined to this room (or to no room, for `None`), and all other rows are unchanged.
 abbrev pub SetsRow : List (Option ℕ) → List (Option ℕ) → ℕ → Option ℕ → Type 0
 SetsRow old new row room =
     (other : ℕ) → room_of_row new other ≡ (if other == row then room else room_of_row old other)

@@ -27,7 +27,7 @@ pub record TakesMode (old new : List RoomFlows) (at : Place) (m : Mode) : Type 0
   pub place : SetsPlace old new at true (mode.talks m) (mode.listens m)
   pub hears : (t l : Place) → hears new t l ≡ hears old t l
 
--- The table says that the place is held, and whether its member talks and listens, as the member's record does.
+-- The table agrees with the member's record: the place is held, and its member talks and listens according to the mode.
 pub record SaysOf (table : List RoomFlows) (r : Record) (p : Place) : Type 0 where
   pub held : IsTrue (holds table p)
   pub talks : talks_at table p ≡ mode.talks r.mode

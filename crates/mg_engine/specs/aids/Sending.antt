@@ -96,12 +96,13 @@ packets_now k = filter_map (λ r. option_map (packet_now k r) (sent_to r)) k.roo
 abbrev pub slot_sends : rooms.Registry → ℕ → Bool
 slot_sends w slot = has_destination (rooms.holder_of w slot)
 
--- The media of a slot after the end of a tick, in which its termination sent a packet if it sends.
+-- The media of a slot after the end of a tick. If the slot's termination sends, it sent a packet in the tick.
 abbrev pub IsEnded : rooms.Registry → List media.SlotMedia → List media.SlotMedia → ℕ → Type 0
 IsEnded w old new slot = media_at new slot
     ≡ media_steps.slot_ended (slot_sends w slot) (media_at old slot)
 
--- The state after mixes, which count their rows, and after packets whose payloads are shared.
+-- The state with this work counter and these shares. Mixes change the counter; packets whose payloads are shared change
+-- the shares.
 abbrev pub with_mixes : EngineState → ℕ → List (List Share) → EngineState
 with_mixes k work shares = record k { sums = record k.sums { work = work }; shares = shares }
 

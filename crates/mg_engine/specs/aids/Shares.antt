@@ -34,7 +34,7 @@ one_more shares share =
 abbrev pub with_share : List (List Share) → ℕ → Share → List (List Share)
 with_share shares room share = slice_set shares room (one_more (shares_in shares room) share)
 
--- ## What the members in certain seats of a room say
+-- ## The speech of the members in certain seats of a room
 
 abbrev pub is_seated_in : ℕ → ℕ → Option Place → Bool
 is_seated_in room mask None = false

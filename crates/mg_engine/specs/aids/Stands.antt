@@ -17,9 +17,9 @@ use Rattle.mg_engine.specs.declared.share.Share.{Share}
 use Rattle.mg_sums.specs.Sums as sums
 use Rattle.mg_sums.specs.aids.Sums.{frame_of_row}
 
--- The state of an engine: its configuration, the terminations and contexts, the media of each slot, the table of flows,
--- the frame of each slot's row, the rooms that rows are joined to, and, by room, the packets of the last tick whose
--- payloads are shared.
+-- The state of an engine: its configuration, the terminations and contexts, the media of each slot, and the table of
+-- flows. For the rows of slots, it has their frames and the rooms that they are joined to. For each room, it lists the
+-- packets of the last tick whose payloads are shared.
 pub record EngineState : Type 0 where
   pub config : Config
   pub rooms : rooms.Registry
@@ -52,7 +52,7 @@ pub record ShareContext (w : rooms.Registry) (m n : ℕ) (a b : Record) (p q : P
 
 -- The configuration, terminations and contexts equal the gateway's. Each termination's media are stored in its slot,
 -- and its frame is stored in its slot's row. For any two members of a context, the table lets one hear the other if and
--- only if the last word does.
+-- only if the last word allows it.
 pub record StandsFor (kept : EngineState) (w : Gateway) : Type 0 where
   pub config : w.config ≡ kept.config
   pub rooms : w.rooms ≡ kept.rooms

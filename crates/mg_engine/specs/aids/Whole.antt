@@ -8,10 +8,9 @@ use Rattle.mg_engine.specs.aids.Members.{HasMembers}
 use Rattle.mg_engine.specs.aids.Joined.{AreJoined}
 use Rattle.mg_engine.specs.aids.Seating.{AreSeated, place_count}
 
--- Lookups of terminations and contexts are sound, and all parts have the same configuration. Each
--- slot has its media, and held slots are in order of their terminations' numbers. Each member is at
--- its place. There is a row for each possible termination, and the rows of those who talk are
--- joined to their rooms.
+-- Lookups of terminations and contexts are sound, and all parts have the same configuration. Each slot has its media,
+-- and held slots are in order of their terminations' numbers. Each member is at its place. There is a row for each
+-- possible termination, and the row of each member that talks is joined to the member's room.
 pub record IsWholeEngine (e : Inside) : Type 0 where
   pub sound : IsSound e.rooms
   pub limits : e.rooms.limits ≡ limits_of e.config

@@ -1,4 +1,4 @@
--- A room by its seats, and the masks of each of its listeners.
+-- The seats of a room, and the masks of each listener in the room.
 use Rattle.std.specs.Prelude.{◌≡◌, ℕ, ◌<◌, Bool, not, ◌&&◌, ◌==◌, if◌then◌else◌, List, []}
 use Rattle.std.specs.Prelude.{slice_index}
 use Rattle.mg_topology.specs.Mask.{seat_limit, has_seat, IsEmpty}
@@ -34,8 +34,8 @@ is_blocked_for topology talks talker listener =
     && (holds topology listener
     && (not (talker == listener) && not (hears topology talker listener))))
 
--- For each listener, the masks contain the talkers whose speech flows to the listener and those that are silenced for
--- it.
+-- For each listener, the masks contain the talkers whose speech flows to the listener and the talkers that are silenced
+-- for it.
 pub record AreMasks (room : RoomFlows) (open_masks silenced_masks : List ℕ) : Type 0 where
   pub flows : (talker listener : ℕ) → listener < seat_limit →
       has_seat (slice_index open_masks listener) talker

@@ -64,7 +64,7 @@ pub record StandsFor (table : List RoomFlows) (es : List FlowEdit) : Type 0 wher
 abbrev pub StandsForSome : List RoomFlows → Type 0
 StandsForSome table = ∥ ((es : List FlowEdit) × StandsFor table es) ∥₁
 
--- All rooms except this one are unchanged, and so are their places.
+-- All other rooms are unchanged, and so are their places.
 abbrev pub KeepsOthers : List RoomFlows → List RoomFlows → ℕ → Type 0
 KeepsOthers old new room = (other : ℕ) → other ≢ room → room_at new other ≡ room_at old other
 

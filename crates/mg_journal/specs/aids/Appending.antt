@@ -29,7 +29,7 @@ IsJournal file len false =
     IfSome file.bytes (λ bytes. IsWhole bytes × (length bytes ≡ len))
     × IfSome file.synced (λ bytes. length bytes ≤ len)
 
--- Unless the journal is broken, this hash is that of the last part of its file.
+-- Unless the journal is broken, this is the hash of the last part of its file.
 abbrev pub IsHashed : FileState → Sha256 → Bool → Type 0
 IsHashed file hasher true = Unit {0}
 IsHashed file hasher false = IfSome file.bytes (λ bytes. Holds256 hasher (last_part bytes))
@@ -39,12 +39,12 @@ abbrev pub Writes : {E : Type 0} → List ℕ → FileState → FileState → Re
 Writes text old new (Ok done) = new ≡ grown old text
 Writes text old new (Err error) = (n : ℕ) × (new ≡ grown old (take n text))
 
--- The file was cut to the given length. If that failed, the file is unchanged.
+-- The file was truncated to the given length. If that failed, the file is unchanged.
 abbrev pub CutsBack : ℕ → FileState → FileState → AppendFault → Type 0
 CutsBack len old new Refused = new ≡ cut_to len old
 CutsBack len old new Broken = new ≡ old
 
--- A prefix of the text was written. If the fault is `Refused`, the file was then cut back.
+-- A prefix of the text was written. If the fault is `Refused`, the file was then truncated to this length.
 abbrev pub Leaves : List ℕ → ℕ → FileState → FileState → AppendFault → Type 0
 Leaves text len old new Refused = (n : ℕ) × (new ≡ cut_to len (grown old (take n text)))
 Leaves text len old new Broken = (n : ℕ) × (new ≡ grown old (take n text))

@@ -4,14 +4,14 @@ use Rattle.mg_journal.specs.declared.extent.Extent.{Extent}
 use Rattle.mg_journal.specs.Text.{whole_lines}
 use Rattle.mg_journal.specs.JournalFile.{FileState}
 
--- The extent has the length of these bytes and that of their complete lines.
+-- The extent has the lengths of these bytes and of their complete lines.
 abbrev pub IsExtent : Extent → List ℕ → Type 0
 IsExtent extent bytes = (extent.whole ≡ length (whole_lines bytes)) × (extent.all ≡ length bytes)
 
 abbrev pub HasExtent : FileState → Extent → Type 0
 HasExtent file extent = IfSome file.bytes (λ bytes. IsExtent extent bytes)
 
--- The extent is that of a prefix of the file.
+-- This is the extent of a prefix of the file.
 abbrev pub HasFront : FileState → Extent → Type 0
 HasFront file extent =
     IfSome file.bytes (λ bytes. (extent.all ≤ length bytes) × IsExtent extent (take extent.all bytes))

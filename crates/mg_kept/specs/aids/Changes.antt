@@ -6,7 +6,7 @@ use Rattle.mg_words.specs.Limits.{kept_limit}
 use Rattle.mg_kept.specs.KeptReplies.{KeptReply, AreKept, is_from, is_reply_to, kept_text}
 use Rattle.mg_kept.specs.KeptReplies.{newer_than, with_reply, without_range}
 
--- A reply is kept while fewer than 32 are newer; keeping one more adds one newer reply.
+-- A reply is kept while fewer than 32 replies are newer. Keeping another reply adds one newer reply.
 abbrev pub FewNewerStay : Type 0
 FewNewerStay =
     (replies : List KeptReply) (reply : KeptReply) (sender text : List ℕ) (number : ℕ)
@@ -16,7 +16,7 @@ FewNewerStay =
     × (length (newer_than (with_reply reply replies) sender number)
     ≡ length (newer_than replies sender number) + 1)
 
--- If the limit on newer replies is reached, keeping one more drops the reply.
+-- If the limit on newer replies is reached, keeping another reply drops this reply.
 abbrev pub NewerRepliesEvict : Type 0
 NewerRepliesEvict =
     (replies : List KeptReply) (reply : KeptReply) (sender : List ℕ) (number : ℕ)
@@ -24,14 +24,15 @@ NewerRepliesEvict =
     → is_reply_to sender number reply ≡ false
     → kept_text (with_reply reply replies) sender number ≡ None
 
--- No reply is newer than the one kept last.
+-- No reply is newer than the reply that was kept last.
 abbrev pub LastIsNewest : Type 0
 LastIsNewest =
     (replies : List KeptReply) (reply : KeptReply) (sender : List ℕ)
     → kept_text replies reply.sender reply.number ≡ None → is_from sender reply ≡ true
     → newer_than (with_reply reply replies) sender reply.number ≡ []
 
--- An acknowledgement that does not name a reply keeps it, and does not add any newer one.
+-- If an acknowledgement does not name a reply, the reply is still kept, and the number of newer replies does not
+-- increase.
 abbrev pub UnnamedStay : Type 0
 UnnamedStay =
     (replies : List KeptReply) (sender from : List ℕ) (number first last : ℕ)

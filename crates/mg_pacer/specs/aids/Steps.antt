@@ -33,7 +33,7 @@ TurnEnds wanted q lines old new (Ok done) =
     (done ≡ nat_le (wanted * q.polls) q.steps) × Appends old new lines
 TurnEnds wanted q lines old new (Err failed) = WritesFront lines old new
 
--- The output at a reading that leads from one pace to the next.
+-- The output at a reading of the clock that advances the pace from `p` to `q`.
 abbrev pub Turns : ℕ → Pace → Pace → Option (List ℕ) → Option (List ℕ) → Result Bool WriteFailed
     → Type 0
 Turns wanted p q old new result =

@@ -1,4 +1,4 @@
--- The turn of a frame, which the code finds first, and the play list after the frame is put there.
+-- The turn of a frame, which the code finds first, and the play list after the frame is placed by its turn.
 use Rattle.std.specs.Prelude.{ℕ, ◌+◌, ◌-◌, ℤ, pos, neg_ℤ, nat_abs, int_lt, int_le, ◌||◌, ◌==◌, nat_le}
 use Rattle.std.specs.Prelude.{if◌then◌else◌, List, length, is_some}
 use Rattle.std.specs.Option.{option_map_or}
@@ -33,7 +33,7 @@ turn_of list ssrc sequence =
     option_map_or (λ source. if ssrc == source.ssrc
     then turn_at list (distance_of source.next sequence) else Start) list.source Start
 
--- The play list and the result after a frame is put where it belongs.
+-- The play list and the result after a frame is placed by its turn.
 abbrev pub placed_at : Turn → PlayList → ℕ → ℕ → List ℤ → PlayList × Placed
 placed_at Start list ssrc sequence frame = (started list ssrc sequence frame, answer.Started)
 placed_at Late list ssrc sequence frame = (list, answer.Late)

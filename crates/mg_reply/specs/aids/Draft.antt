@@ -4,7 +4,7 @@ use Rattle.std.specs.Prelude.{Option, Some, None, if◌then◌else◌}
 use Rattle.mg_words.specs.Limits.{reply_limit}
 use Rattle.mg_reply.specs.Bytes.{Written, appended}
 
--- The text before the reply, the room after that text, and the reply so far, unless it is too long.
+-- The text before the reply, the room after that text, and the reply so far, or `None` if the reply is too long.
 pub record Drafted : Type 0 where
   pub front : List ℕ
   pub room : ℕ
@@ -18,7 +18,7 @@ text_unless false text = Some text
 abbrev pub limited : List ℕ → Option (List ℕ)
 limited text = if nat_le (length text) reply_limit then Some text else None
 
--- The reply with a part appended, unless it is too long.
+-- The reply with a part appended, or `None` if the reply is too long.
 abbrev pub grown : Option (List ℕ) → List ℕ → Option (List ℕ)
 grown None part = None
 grown (Some text) part = limited (text ++ part)
@@ -36,7 +36,7 @@ closed_text front room None new is_full =
 abbrev pub closed : Drafted → Written → Bool → Type 0
 closed d new is_full = closed_text d.front d.room d.text new is_full
 
--- The invariant of a draft: the index where the reply starts, and how many more bytes it may have.
+-- The invariant of a draft: the index where the reply starts, and how many more bytes the reply may have.
 pub record IsDraft (bytes : Written) (start left : ℕ) (is_full : Bool) : Type 0 where
   pub start_within : start ≤ length bytes.text
   pub room_left : left ≤ bytes.room

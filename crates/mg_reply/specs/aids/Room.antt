@@ -6,7 +6,7 @@ use Rattle.mg_reply.specs.declared.item.Item.{Item}
 use Rattle.mg_reply.specs.declared.item.Item.TheVariants.{Action}
 use Rattle.mg_reply.specs.Reply.{last_is_action}
 
--- The context of the action that ends with this item, if an action does.
+-- The context of the action that ends with this item, or `None` if no action ends with it.
 abbrev pub action_id : Item → Option ContextId
 action_id (Action id) = Some id
 action_id _ = None

@@ -8,7 +8,7 @@ use Rattle.mg_reply.specs.Entries.{item_text}
 use Rattle.mg_reply.specs.Reply.{Answered, new_reply, is_refusal, last_is_action, after_all}
 use Rattle.mg_reply.specs.Written.{action_text, reply_text}
 
--- Whether an item is at least 10 bytes long with its comma, as every item of a request's reply is. The end of an action
+-- Whether an item, with its comma, is at least 10 bytes long. Every item of a request's reply is. The end of an action
 -- counts without its entries.
 abbrev pub is_wide : Item → Bool
 is_wide (Triple a b association) = nat_le 9 (length (item_text (Triple a b association)))
@@ -20,8 +20,8 @@ is_wide (Action id) = nat_le 9 (length (action_text id []))
 abbrev pub is_too_long : Answered → Bool
 is_too_long r = r.is_long || nat_lt reply_limit (length (reply_text r.number r.items))
 
--- After complete items are put into a new reply, the reply is too long if and only if the text of all these items exceeds the
--- limit. This includes the items for which there was no room. If the reply is not marked as too long, it has all items.
+-- A new reply that gets complete items is too long if and only if the text of all the items exceeds the limit. This
+-- includes the items for which there was no room. If the reply is not marked as too long, it has all items.
 abbrev pub TooLongByText : Type 0
 TooLongByText =
     (n : ℕ) (xs : List Item) → list_all is_wide xs ≡ true

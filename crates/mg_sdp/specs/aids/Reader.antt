@@ -1,5 +1,4 @@
--- Reading the lines of a descriptor's content one by one. Offer and Alternatives define their
--- meaning.
+-- Reading the lines of a descriptor's content one by one. Offer and Alternatives define the meaning of lines.
 use Rattle.std.specs.Prelude.{ℕ, ◌==◌, ◌&&◌, Bool, true, false, nat_lt, List, [], ◌∷◌, ◌++◌, Option}
 use Rattle.std.specs.Prelude.{Some, None, Result, Ok, Err, length, unwrap_or, if◌then◌else◌}
 use Rattle.std.specs.Str.{byte}

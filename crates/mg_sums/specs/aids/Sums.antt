@@ -32,7 +32,7 @@ total_of kept room i = sum_of (sample_in kept.frames i) (joined_rows kept.rooms 
 abbrev pub work_after : ℕ → ℕ → ℕ
 work_after more work = (work + more) % 2 ^ 32
 
--- The number of additions and subtractions that it takes to set a row's frame: two if the row is joined to a room, and
+-- The number of additions and subtractions of a row when its frame is set: two if the row is joined to a room, and
 -- otherwise none.
 abbrev pub frame_calls : Option ℕ → ℕ
 frame_calls None = 0

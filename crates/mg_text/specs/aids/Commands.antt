@@ -34,14 +34,14 @@ assigned_at source ts =
     (λ inside. after_group source 0 inside)
     (word_at source ts >>= λ word. filled_at source word.1 >>= λ group. Ok group.1)
 
--- Whether another descriptor has content, and the tokens after the content.
+-- Whether an `other` descriptor has content, and the tokens after the content.
 unfoldable pub content_at : List ℕ → List Token → Result (Bool × List Token) ℕ
 content_at source ts =
     if_some (after_mark Equals ts)
     (λ value. assigned_at source value >>= λ rest. Ok (true, rest))
     (filled_at source ts)
 
--- The rest of another descriptor after its keyword.
+-- The rest of an `other` descriptor after its keyword.
 unfoldable pub other_at : List ℕ → OtherWord → List Token → Result (Descriptor × List Token) ℕ
 other_at source word ts = do
   content ← content_at source ts
@@ -66,7 +66,7 @@ descriptor_at source ts = do
   keyword ← keyword_at source ts
   descriptor_named source keyword.0 (place_of_rest source ts) keyword.1
 
--- The rest of an Audit after its keyword, or the position of the keyword if it is another one.
+-- The rest of an Audit after its keyword, or the position of the keyword if it is not AUDIT.
 abbrev pub audit_named : List ℕ → Keyword → ℕ → List Token → Result (List AuditWord × List Token) ℕ
 audit_named source keywords.Audit place ts = audit_words_at source ts
 audit_named source _ place ts = Err place
@@ -76,7 +76,7 @@ audit_at source ts = do
   keyword ← keyword_at source ts
   audit_named source keyword.0 (place_of_rest source ts) keyword.1
 
--- An Audit in braces, if there are braces.
+-- An optional Audit in braces.
 unfoldable pub optional_audit_at : List ℕ → List Token → Result (List Descriptor × List Token) ℕ
 optional_audit_at source ts =
     if_some (after_mark Open ts)

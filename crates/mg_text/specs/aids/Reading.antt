@@ -129,7 +129,7 @@ any_braced_at source read ts = do
   ts ← mark_at source Open ts
   if_some (after_mark Close ts) (λ rest. Ok ([], rest)) (items_at source read ts)
 
--- Items in braces, if there are braces.
+-- Optional items in braces.
 unfoldable pub optional_braced_at : {X : Type 0} → List ℕ
     → (List Token → Result (X × List Token) ℕ) → List Token → Result (List X × List Token) ℕ
 optional_braced_at source read ts =

@@ -85,10 +85,11 @@ unfoldable pub begins_property : List ℕ → List Token → Bool
 begins_property source [] = false
 begins_property source (t ∷ ts) = is_property (keyword_of (text_of source t.span))
 
--- The parts of an action with one more property at the front, and the parts of an action without properties.
+-- An action's parts, with a property added at the front.
 abbrev pub with_property : ContextProperty → ActionParts → ActionParts
 with_property x parts = record { properties = x ∷ parts.properties; commands = parts.commands }
 
+-- The parts of an action without properties.
 abbrev pub just_commands : List Command → ActionParts
 just_commands xs = record { properties = []; commands = xs }
 
@@ -116,7 +117,7 @@ action_at source ts = do
   parts ← parts_at source (length ts) ts
   Ok (action_of context.0 parts.0, parts.1)
 
--- A request as an item of a message that is kept.
+-- A request as a kept item of a message.
 abbrev pub request_of : ℕ → List Action → Option MessageItem
 request_of number actions = Some (items.Request (record { number = number; actions = actions }))
 

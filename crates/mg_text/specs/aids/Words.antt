@@ -1,5 +1,5 @@
 -- The values of single words, case by case. The grammar defines modes, associations and commands by their long words.
--- `proofs/WordLemmas` proves that both agree.
+-- `proofs/WordLemmas` proves that the two definitions agree.
 use Rattle.std.specs.Prelude.{Bool, true, false, List, ℕ, Option, Some, None, codes}
 use Rattle.std.specs.Option.{option_map, option_map_or}
 use Rattle.mg_words.specs.Cut.{after_prefix}

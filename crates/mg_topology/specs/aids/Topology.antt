@@ -3,8 +3,8 @@ use Rattle.std.specs.Prelude.{◌≡◌, ℕ, Bool, not, ◌&&◌, ◌==◌, nat
 use Rattle.mg_topology.specs.Mask.{seat_limit, has_seat}
 use Rattle.mg_topology.specs.Edits.{TopologyEdit, is_held, hears_in}
 
--- The held seats as a mask, and for each listener a row: the mask of the talkers that its last words let it hear. Bits
--- for the listener itself, or for a seat that is not held, have no meaning.
+-- The held seats as a mask, and a row for each listener: the mask of the talkers that the last words let the listener
+-- hear. Bits for the listener itself, or for a seat that is not held, have no meaning.
 pub record TopologyState : Type 0 where
   pub held : ℕ
   pub rows : List ℕ

@@ -62,7 +62,7 @@ keys_filtered p (r ∷ rs) = step (p (key_of r)) (keys_filtered p rs)
     step true e = ap (λ (l : List Key). key_of r ∷ l) e
     step false e = e
 
--- Whether a key in the list passes the test. So the keys alone determine whether a reply is kept.
+-- Whether a key in the list passes the test. By `kept_by_key`, the keys alone determine whether a reply is kept.
 find_key : (p : Key → Bool) → List Key → Bool
 find_key p [] = false
 find_key p (k ∷ ks) = cond (p k) true (find_key p ks)

@@ -55,13 +55,13 @@ found_at (y ∷ ys) n zero x lt none e t = rw (← e, t) refl
 found_at (y ∷ ys) n (suc i) x lt none e t = some_cons (y.number == n) y x (listener_at (take i ys) n)
     (listener_at ys n) none (λ m. found_at ys n i x (omega arith) m e t)
 
--- ## What is written in parts
+-- ## Text that is written in parts
 
 pub three_parts : (w x y z : Written) (a b l : List ℕ) → x ≡ appended w a → y ≡ appended x b → z ≡ appended y l →
     z ≡ appended w (a ++ (b ++ l))
 three_parts w x y z a b l h k m = after w x z a (b ++ l) h (after x y z b l k m)
 
--- Taking one more element appends its text.
+-- If one more element is taken from the list, its text is appended.
 each_more : {A : Type 0} (f : A → List ℕ) (xs : List A) (i : ℕ) (x : A) → i < length xs → x ≡ get_or xs i x →
     flat_map f (take (i + 1) xs) ≡ flat_map f (take i xs) ++ f x
 each_more f xs i x lt is = ap (flat_map f) (take_more xs i x lt) ∙ flat_map-append f (take i xs) (get_or xs i x ∷ []) ∙

@@ -28,7 +28,7 @@ abbrev pub ArrivalsAreConsistent : Type 0
 ArrivalsAreConsistent = (w next : engine.Gateway) (port : ℕ) (source bytes : List ℕ) (result : Taken) →
     IsConsistent w.rooms → Takes w port source bytes next result → IsConsistent next.rooms
 
--- Control datagrams preserve each property of a gateway that requests preserve.
+-- If requests preserve a property of the gateway, so do the items of a message, whole messages and control datagrams.
 module _ (Q : engine.Gateway → Type 0) (requests : (source : List ℕ) (request : Request) (w : engine.Gateway) → Q w →
     Q (replied source request w).gateway)
   where

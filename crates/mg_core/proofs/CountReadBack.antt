@@ -1,4 +1,4 @@
--- The line that counts ticks is read as that many ticks, and scripts without such lines are read as they are.
+-- The line that counts ticks is read as that many ticks, and scripts without such lines are read unchanged.
 use Rattle.std.proofs.Common.{◌≡◌, ℕ, zero, suc, ◌<◌, ◌^◌, Bool, true, false, ◌||◌, eqb, List, [], ◌∷◌, ◌++◌, length, length-append, get_or, take, drop, codes, decimal, replicate, Option, Some, None, refl, sym, ap, ◌∙◌, arith}
 use Rattle.std.specs.Prelude.{◌&&◌, not, if◌then◌else◌}
 use Rattle.std.specs.Str.{bytes_eq}
@@ -22,7 +22,7 @@ use Rattle.mg_core.proofs.CountedLemmas.{counted_line, expanded_one, plain_line}
 use Rattle.mg_core.proofs.ReadBackLemmas.{cut_seam, decimals_above, is_not, tick_read}
 use Rattle.mg_core.proofs.RecordingLemmas.{line_then, whole_line}
 
--- ## The line
+-- ## The line that counts ticks
 
 some_digits : (n : ℕ) (ds : List ℕ) → IsWritten n ds → eqb (length ds) 0 ≡ false
 some_digits n ds w = rw w.parts (ne_eqb (length (w.front ++ w.last ∷ [])) 0
@@ -67,7 +67,7 @@ count_is_ticks n some small =
     ∙ ap events_of (expanded_one true line ∙ counted_line true line n (count_read_back n some small))
     ∙ events_of_ticks n
 
--- ## Other lines
+-- ## Scripts in which no line counts ticks
 
 no_bytes : (o : Option Peer) (text : List ℕ) →
     (o >>= λ source. bytes_of (codes "ticks") text >>= λ bytes. datagram bytes >>= λ b. an_event (Control source b)) ≡ None
@@ -92,7 +92,7 @@ either_none : (long : Bool) (o : Option (Option Event)) → o ≡ None → (if l
 either_none true o none = refl
 either_none false o none = none
 
--- A line with a count has no event of its own.
+-- As an ordinary script line, a line that counts ticks is bad.
 count_none : (rest : List ℕ) → event_of (codes "ticks " ++ rest) ≡ None
 unfolding event_of
 count_none rest = either_none _ (datagram_of (codes "ticks " ++ rest)) (datagram_none rest)
@@ -126,7 +126,7 @@ same_lines line None all es is = absurd (cc is)
 same_lines line (Some e) None es is = absurd (cc is)
 same_lines line (Some e) (Some l) es is = (e, l, refl, refl)
 
--- A script in which no line counts ticks is read as it is.
+-- A script in which no line counts ticks is read unchanged.
 pub script_stays : (c : Bool) (lines : List (List ℕ)) (es : List Event) → events_of lines ≡ Some es →
     expanded c lines ≡ lines
 unfolding expanded events_of
@@ -137,7 +137,7 @@ script_stays c (line ∷ lines) es is =
     (plain_line c line (event_plain c line e event))
     ∙ ap (λ (l : List (List ℕ)). line ∷ l) (script_stays (c || is_mark line) lines l more)
 
--- Lines that are a script are the same script, whether ticks are counted or not.
+-- A script in which no line counts ticks has the same events, whether or not ticks are counted.
 pub script_same : (c : Bool) (lines : List (List ℕ)) (es : List Event) → events_of lines ≡ Some es →
     events_of (expanded c lines) ≡ Some es
 script_same c lines es is = ap events_of (script_stays c lines es is) ∙ is

@@ -15,7 +15,7 @@ capped_more k [] = refl
 capped_more zero (x ∷ xs) = ap (λ (n : ℕ). n ∷ map capped xs) (capped_once x)
 capped_more (suc k) (x ∷ xs) = ap (λ (l : List ℕ). capped x ∷ l) (capped_more k xs)
 
--- ## The first counters
+-- ## The counters before an index
 
 take_more_at : (n k : ℕ) (xs : List ℕ) → k < n → take n (one_more_at k xs) ≡ one_more_at k (take n xs)
 take_more_at zero k xs lt = absurd (omega (arith, lt))
@@ -36,7 +36,7 @@ raised_first n k xs lt = ap (map capped) (take_more_at n k xs lt) ∙ capped_mor
 pub others_after : (n k : ℕ) (xs : List ℕ) → k < n → map capped (drop n (one_more_at k xs)) ≡ map capped (drop n xs)
 others_after n k xs lt = ap (map capped) (drop_same n k xs lt)
 
--- ## The others
+-- ## The counters from an index on
 
 later : (n k : ℕ) → suc n + k ≡ suc (n + k)
 later n k = omega arith

@@ -57,7 +57,7 @@ answer_tally source TooMany w = refl
 answer_tally source (OtherVersion n) w = refl
 answer_tally source NoMessage w = refl
 
--- ## Counting one
+-- ## Counting one more event
 
 module _ {A : Type 0} (p : A → Bool) where
   count-cons : (x : A) (xs : List A) → count_by p (x ∷ xs) ≡ cond (p x) 1 0 + count_by p xs
@@ -76,7 +76,7 @@ one_counter_more : (xs : List ℕ) (k : ℕ) → k < length xs → sum (one_more
 one_counter_more xs k few =
     let h = sum_by-set (λ (n : ℕ). n) xs k (slice_index xs k + 1) 0 few in omega (arith, h)
 
--- ## Results
+-- ## Counts of outcomes
 
 result_below : (result : Taken) → result_place result < 11
 result_below (Placed answers.Started) = omega arith
@@ -99,7 +99,7 @@ unfolding HasCounters
 taken_keeps taken t h =
     length-set t.results (result_place taken) (slice_index t.results (result_place taken) + 1) ∙ h
 
--- ## Events
+-- ## Counts after events
 
 -- The counts after events are the earlier counts plus the numbers of these events.
 record Grows (t : Tally) (events : List Event) (after : Tally) : Type 0 where

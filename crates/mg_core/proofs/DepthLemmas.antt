@@ -52,7 +52,7 @@ use Rattle.mg_engine.specs.Tick.{after_tick, played, sends_at, sent}
 use Rattle.mg_engine.specs.aids.Found.{taken_by}
 use Rattle.mg_engine.specs.aids.Placing.{frame_placed_at}
 
--- ## Play lists
+-- ## The depths of play lists
 
 abbrev no_frame : Option (List ℤ)
 no_frame = None
@@ -315,7 +315,7 @@ add_is w after target settings d e =
           ∙ (settings_are w.limits settings (fresh w.next_termination slot place) r made).1,
     )
 
--- A termination was changed in place.
+-- A command changed a termination and kept its number.
 record IsChanged (w after : Registry) (n : ℕ) (settings : Settings) (d : Record) : Type 0 where
   old : Record
   found : record_at w n ≡ Some old
@@ -373,7 +373,7 @@ subtract_is w after target n d e =
     sym (ap (λ (p : Registry × Record). p.0.terminations) both)
     ∙ ap (λ (p : Registry × Record). without_record p.1.number w.terminations) both
 
--- ## Gateways
+-- ## Commands on a gateway
 
 abbrev pub IsPaired : Gateway → Type 0
 IsPaired g = Paired g.media g.rooms.terminations
@@ -457,7 +457,7 @@ tick_keeps : (w : Gateway) → IsPaired w → IsPaired (after_tick w)
 tick_keeps w h = sent_pair w.rooms (map played w.media) w.rooms.terminations
     (played_pair w.media w.rooms.terminations h)
 
--- ## Events
+-- ## Events of a gateway
 
 abbrev RequestsKeepPairs : Type 0
 RequestsKeepPairs = (source : List ℕ) (request : Request) (w : Gateway) → IsPaired w →

@@ -5,7 +5,7 @@ use Rattle.std.proofs.lemmas.Bool.{eq-eqb, ne_eqb}
 use Rattle.std.specs.Option.{option_map}
 use Rattle.mg_core.specs.Script.{is_plain, escaped_byte, unescaped}
 
--- The bytes parsed so far, followed by those of the rest of the text.
+-- The bytes parsed so far, followed by the bytes of the rest of the text.
 abbrev pub in_front : List ℕ → Option (List ℕ) → Option (List ℕ)
 in_front bytes o = option_map (λ rest. bytes ++ rest) o
 
@@ -14,7 +14,8 @@ in_front-more : (bytes : List ℕ) (b : ℕ) (o : Option (List ℕ)) →
 in_front-more bytes b None = refl
 in_front-more bytes b (Some rest) = ap (λ (l : List ℕ). Some l) (append_assoc bytes (b ∷ []) rest)
 
--- The cases for the next byte: after a backslash, a backslash, a plain byte, and any other byte.
+-- The next five lemmas are the cases for the next byte. The byte follows a backslash or, if it doesn't, is a backslash,
+-- a plain byte or any other byte.
 pub behind_backslash : (bytes text : List ℕ) (i byte : ℕ) → i < length text →
     escaped_byte (get_or text i 0) ≡ Some byte →
     in_front (bytes ++ byte ∷ []) (unescaped false (drop (i + 1) text)) ≡ in_front bytes (unescaped true (drop i text))

@@ -13,7 +13,7 @@ use Rattle.mg_core.proofs.RunLemmas.{run_both}
 pub one_event : (w v : World) (event : Event) (sent : List Sent) → Step w event sent v → Run w (event ∷ []) sent v
 one_event w v event sent step = (sent, [], v, step, (refl, refl), sym (append-nil sent))
 
--- A step that is possible in each represented world extends each history by one event.
+-- If each represented world can take the step of an event, each history can be extended by this event.
 pub continues : (old new : CoreState) (event : Event) (sent : List Sent) →
     Leads StandsFor old new (λ w next. Step w event sent next) → ExtendsHistory old new event sent
 continues old new event sent leads config events before w (run, stands) =

@@ -28,7 +28,7 @@ two_taken : (a b : Taken) (t : Tally) → with_taken b (with_taken a t) ≡ with
 two_taken a b t = ap (λ (l : List ℕ). record t { media = t.media + 1 + 1; results = l })
     (two_more (result_place b) (result_place a) t.results)
 
--- ## What a port sees
+-- ## The events that a port sees
 
 both_true : (x y : Bool) → x ≡ true → y ≡ true → (x && y) ≡ true
 both_true true y h k = k
@@ -71,7 +71,7 @@ heads e f xs ys h = cc h
 tails : (e f : Event) (xs ys : List Event) → e ∷ xs ≡ f ∷ ys → xs ≡ ys
 tails e f xs ys h = cc h
 
--- ## Where a port sees its first event
+-- ## The first event that a port sees
 
 -- The event follows only events that the port does not see.
 record IsBehind (port : ℕ) (e : Event) (seen events : List Event) : Type 0 where
@@ -157,7 +157,7 @@ without_at port at source bytes a before after false here unseen rest same =
     (subst (λ (p : ℕ). seen_at p before ≡ []) is (none_seen at before unseen)) ∙
     subst (λ (p : ℕ). seen_at p after ≡ seen_at p a) is rest)
 
--- ## Runs
+-- ## Runs of two such lists
 
 module _ (steps_are_one : (w : World) (event : Event) (s t : List Sent) (x y : World) → Step w event s x →
     Step w event t y → (s ≡ t) × (x ≡ y))
@@ -226,7 +226,8 @@ module _ (steps_are_one : (w : World) (event : Event) (s t : List Sent) (x y : W
               ap (λ (l : List Sent). l ++ later) swap.no_second,
         )
 
-    -- If two runs begin with the same event, their rests start in the same world.
+    -- Suppose two runs begin with the same event, and their rests have the same outcome. Then the runs have the same
+    -- outcome.
     join : (w : World) (e : Event) (a b : List Event) (s t : List Sent) (v x : World) → Run w (e ∷ a) s v →
         Run w (e ∷ b) t x → ((next : World) (others rest : List Sent) (sent : List Sent) → Step w e sent next →
         Run next a others v → Run next b rest x → (others ≡ rest) × (v ≡ x)) → (s ≡ t) × (v ≡ x)

@@ -13,7 +13,7 @@ use Rattle.mg_core.proofs.ApartLemmas.{SameEventKeepsAgreement}
 use Rattle.mg_core.proofs.QuietLemmas.{only_changes_are_reported}
 use Rattle.mg_core.proofs.ReceivedLemmas.{ConsistentSteps, control_agrees, media_agrees, rooms_at_start, tick_agrees, agrees_itself}
 
--- ## Flows
+-- ## Flows without RTP datagrams
 
 pub agreement_has_same_flows : AgreementHasSameFlows
 agreement_has_same_flows a b talker listener h =
@@ -23,7 +23,7 @@ pub histories_have_same_flows : RtpChangesSpeechOnlyInHistories → HistoriesHav
 histories_have_same_flows agree config events s t v w one other talker listener start h k =
     agreement_has_same_flows v w talker listener (agree config events s t v w one other start h k).0
 
--- ## Reports
+-- ## Reports without RTP datagrams
 
 same_listeners : (a b : World) → AgreeExceptReceived a b → listeners_of a.gateway ≡ listeners_of b.gateway
 same_listeners a b h = λ i. listeners_of (record a.gateway { rooms = h.rooms i; edits = h.edits i })

@@ -8,6 +8,7 @@ pub mod ListenerLemmas
 pub mod QuietLemmas
 pub mod ReportLineLemmas
 pub mod ReportLemmas
+pub mod ReportedListenerLemmas
 pub mod LineLemmas
 pub mod SplitLemmas
 pub mod RunLemmas
@@ -28,4 +29,6 @@ pub mod SkipLemmas
 pub mod CountedLemmas
 pub mod CountReadBack
 pub mod ResumeLemmas
+pub mod ResumedBytesLemmas
+pub mod ResumedScriptLemmas
 pub mod ReadingLemmas

@@ -32,7 +32,7 @@ pub same_appends : (a : Option (List ℕ)) → Appends a a []
 same_appends None = tt
 same_appends (Some a) = sym (append-nil a)
 
--- ## Counts of what was sent
+-- ## Counts of sent datagrams
 
 pub sent_both : (n : ℕ) (a b : List Sent) → after_sent n (a ++ b) ≡ after_sent (after_sent n a) b
 unfolding after_sent
@@ -48,7 +48,7 @@ sent_at_once n (s ∷ sent) within = sent_at_once (capped (n + 1)) sent (omega a
     at_once : (k j : ℕ) → capped (capped (k + 1) + j) ≡ capped (k + suc j)
     at_once k j = omega arith
 
--- ## Events
+-- ## The output for an event
 
 abbrev pub event_result : Result (Unit {0}) WriteFailed → Result (Unit {0}) EventFault
 event_result (Ok done) = Ok tt
@@ -104,7 +104,7 @@ tick_steps old new outbox text n m a b r sent after is put more w stands = (
   after w stands,
 )
 
--- ## Both forms
+-- ## Both forms of output
 
 same_text : (shown : Shown) (w next : World) (sent : List Sent) → changes_by w next ≡ [] →
     lines_for sent ≡ event_text shown w sent next
@@ -262,7 +262,7 @@ pub no_text : (shown : Shown) (w : World) → IsShownText shown w [] [] [] w
 no_text shows.Sent w = refl
 no_text shows.SentAndFlows w = (refl, refl)
 
--- ## Lines
+-- ## The output for a line
 
 abbrev pub line_result : Result (Unit {0}) EventFault → Result (Unit {0}) LineFault
 line_result (Ok done) = Ok tt
@@ -324,7 +324,7 @@ event_line shown number line event w next n m a b (Err events.Write) is h = reco
 }
 event_line shown number line event w next n m a b (Err events.NoMemory) is h = h
 
--- A step that changes nothing keeps each world.
+-- If a step can leave each world unchanged, the worlds that satisfy `Kept` still satisfy it afterwards.
 pub same_steps : {E : Type 0} (Kept : World → Type 0) (r : Result (Unit {0}) E) (R : World → World → Type 0) →
     ((w : World) → R w w) → LeadsOn Kept Kept r R
 same_steps Kept (Ok done) R f w stands = (w, f w, stands)

@@ -17,7 +17,7 @@ use Rattle.mg_core.specs.Flows.{Listener}
 use Rattle.mg_engine.specs.Gateway.{Gateway, context_of, numbers_of}
 use Rattle.mg_engine.specs.aids.Found.{context_in}
 
--- ## They are members of its context
+-- ## The talkers that a listener hears are members of its context
 
 and_left : (a b : Bool) → a && b ≡ true → a ≡ true
 and_left true b h = refl
@@ -68,7 +68,7 @@ talkers_few w listener sound =
       members_few (context_at w.rooms c) (λ x is. (sound.context c x is).1.few),
     )
 
--- ## One termination after another
+-- ## The search for talkers, termination by termination
 
 one_more : (p : ℕ → Bool) (rs : List Record) (i : ℕ) (r : Record) → i < length rs → get_or rs i r ≡ r →
     filter p (map (λ x. x.number) (take (i + 1) rs)) ≡
@@ -122,7 +122,7 @@ is_taken {E = E} p rs i r ns new pushed lt is comes few h =
     put (Ok done) more there a b = a ∙ sym more
     put (Err e) more there a b = absurd (omega (arith, b, there))
 
--- ## All terminations, one after another
+-- ## Storing the terminations
 
 pub place_filled : (f : Record → Listener) (places : List Listener) (rs : List Record) (i : ℕ) (r : Record)
     (new : Listener) → i < length places → i < length rs → get_or rs i r ≡ r → new ≡ f r →

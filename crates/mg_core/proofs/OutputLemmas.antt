@@ -6,7 +6,7 @@ use Rattle.mg_reply.specs.Bytes.{Written, appended}
 use Rattle.mg_reply.proofs.WrittenLemmas.{appended-appended}
 use Rattle.mg_core.specs.Script.{escape_of, escaped}
 
--- Escaping one more byte of text.
+-- If one more byte of the text is escaped, its escaped form is appended.
 pub escaped_more : (w : Written) (text : List ℕ) (i : ℕ) → i < length text →
     appended (appended w (escaped (take i text))) (escape_of (get_or text i 0)) ≡
     appended w (escaped (take (i + 1) text))

@@ -27,7 +27,7 @@ use Rattle.mg_core.specs.Flows.{Listener, OnlyChangesAreReported, changes, chang
 use Rattle.mg_core.specs.Step.{Sent, Step}
 use Rattle.mg_core.specs.World.{World, capped}
 
--- ## From listeners to the same listeners nothing changed
+-- ## Equal lists of listeners have no changes
 
 same_mode : (m : Mode) → is_same_mode m m ≡ true
 same_mode Inactive = refl
@@ -94,7 +94,7 @@ only_changes_are_reported ticks v w consistent same =
     ap (changes ticks (listeners_of v)) (sym same) ∙
     none_changed ticks (listeners_of v) (all_found v (sound_if v.rooms consistent))
 
--- ## The same terminations and edits
+-- ## Gateways with the same terminations and edits
 
 record IsSame (v w : Gateway) : Type 0 where
   rooms : v.rooms ≡ w.rooms
@@ -139,7 +139,7 @@ quiet w next sound h =
           none_changed ticks (listeners_of w.gateway) (all_found w.gateway sound);
     }
 
--- ## Events
+-- ## RTP datagrams and ticks
 
 abbrev pub KeepsQuiet : Event → Type 0
 KeepsQuiet event = (w next : World) (sent : List Sent) → IsSound w.gateway.rooms → Step w event sent next →

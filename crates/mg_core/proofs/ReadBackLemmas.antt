@@ -21,7 +21,7 @@ use Rattle.mg_core.specs.Recording.{Happened, IsDatagram, IsRecorded}
 
 -- ## Tests that all bytes pass
 
--- If all bytes of a text and 0 pass a test, the byte at any index passes it. The byte after the end counts as 0.
+-- If all bytes of some text and 0 pass a test, the byte at any index passes it. The byte after the end counts as 0.
 pub at_passes : (p : ℕ → Bool) (xs : List ℕ) (i : ℕ) → p 0 ≡ true → list_all p xs ≡ true → p (slice_index xs i) ≡ true
 at_passes p [] i z h = z
 at_passes p (x ∷ xs) zero z h = (and_parts (p x) (list_all p xs) h).0
@@ -31,7 +31,8 @@ at_passes p (x ∷ xs) (suc i) z h = at_passes p xs i z (and_parts (p x) (list_a
 abbrev pub is_not : ℕ → ℕ → Bool
 is_not byte b = not (eqb b byte)
 
--- All bytes of a line pass the test: digits, separators and keywords. So does 0, which stands for the end of the line.
+-- The bytes of all lines pass the test: digits, separators and keywords. So does 0, the value that is read after the
+-- end of a line.
 pub record Passes (p : ℕ → Bool) : Type 0 where
   pub zero_passes : p 0 ≡ true
   pub decimals : (c : ℕ) → 48 ≤ c → c ≤ 57 → p c ≡ true
@@ -101,9 +102,9 @@ peer_passes p h dot colon source small port =
     (address_passes p h dot source.address small)
     (and_from (p 58) (list_all p (decimal source.port)) colon (decimal_passes p h source.port (omega arith)))
 
--- ## Texts in two parts
+-- ## Splitting text at a byte
 
--- `cut` splits a text at the first occurrence of the byte.
+-- `cut` splits text at the first occurrence of the byte.
 pub cut_seam : (byte : ℕ) (xs ys : List ℕ) → eqb byte byte ≡ true → list_all (is_not byte) xs ≡ true →
     cut byte (xs ++ byte ∷ ys) ≡ Some (xs, ys)
 cut_seam byte xs ys same h =
@@ -156,7 +157,7 @@ bytes_from_all [] h i = omega arith
 bytes_from_all (x ∷ xs) h zero = All-head (λ b. b < 256) x xs h
 bytes_from_all (x ∷ xs) h (suc i) = bytes_from_all xs (All-tail (λ b. b < 256) x xs h) i
 
--- The part of a line with a peer, a space and the hexadecimal digits of a datagram.
+-- A peer, a space and the hexadecimal digits of a datagram, as a part of a line.
 abbrev pub datagram_part : Peer → List ℕ → List ℕ
 datagram_part source bytes = peer_text source ++ (32 ∷ encode_lower bytes)
 

@@ -35,7 +35,7 @@ ConsistentSteps = (w : World) (event : Event) (sent : List Sent) (next : World) 
 abbrev pub rooms_at_start : Config → Registry
 rooms_at_start config = (start_of config).gateway.rooms
 
--- ## Media, without what was received
+-- ## Media without received packets
 
 abbrev erased : List TerminationMedia → List TerminationMedia
 erased xs = map without_arrivals xs
@@ -48,12 +48,12 @@ erased_twice : (some : List ℕ) (xs : List TerminationMedia) → erased (map (u
 erased_twice some [] = refl
 erased_twice some (s ∷ xs) = λ i. erased_at s (has some s.number) i ∷ erased_twice some xs i
 
--- Media that agree outside some terminations also agree if received packets are ignored for all terminations.
+-- If media agree outside some terminations, they also agree if the received packets of all terminations are ignored.
 same_erased : (some : List ℕ) (xs ys : List TerminationMedia) →
     map (unless_among some) xs ≡ map (unless_among some) ys → erased xs ≡ erased ys
 same_erased some xs ys h = sym (erased_twice some xs) ∙ ap erased h ∙ erased_twice some ys
 
--- ## All of them are some
+-- ## Agreement outside all terminations
 
 abbrev numbers : List TerminationMedia → List ℕ
 numbers xs = map (λ s. s.number) xs
@@ -88,7 +88,7 @@ same_numbers : (xs : List TerminationMedia) → numbers (erased xs) ≡ numbers 
 same_numbers [] = refl
 same_numbers (s ∷ xs) = ap (λ (ns : List ℕ). s.number ∷ ns) (same_numbers xs)
 
--- Media that agree if received packets are ignored agree outside the set of all their terminations.
+-- If media agree except for received packets, they agree outside the set of all their terminations.
 same_outside : (xs ys : List TerminationMedia) → erased xs ≡ erased ys →
     map (unless_among (numbers xs)) xs ≡ map (unless_among (numbers xs)) ys
 same_outside xs ys h =
@@ -229,7 +229,8 @@ agrees_itself w = record {
   ticks = refl;
 }
 
--- The depths of play lists equal those in the records.
+-- From worlds to histories. The play lists also have the same depths, because each depth equals the depth in its
+-- termination's record.
 pub in_histories : RtpChangesSpeechOnly → ConsistentSteps → ((config : Config) → IsStart config →
     IsConsistent (rooms_at_start config)) → RtpChangesSpeechOnlyInHistories
 in_histories worlds consistent starts config events s t v w one other start (run, stands) (runs, too) =

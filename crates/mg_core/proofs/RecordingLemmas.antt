@@ -12,7 +12,7 @@ use Rattle.mg_core.proofs.ReadBackLemmas.{is_not, at_passes, no_feed, no_return,
 
 -- ## Lines
 
--- A text that starts with a line consists of that line and the lines after it.
+-- If text starts with a line and its line feed, the lines of the text are this line and the lines of the rest.
 pub line_then : (ended : Bool) (partial line rest : List ℕ) → list_all (is_not 10) line ≡ true →
     lines_after ended partial (line ++ 10 ∷ rest) ≡ without_return (partial ++ line) ∷ lines_after ended [] rest
 unfolding lines_after
@@ -26,7 +26,7 @@ line_then ended partial (b ∷ bs) rest h =
     ap (λ (l : List ℕ). without_return l ∷ lines_after ended [] rest) (append_assoc partial (b ∷ []) bs) in
     rw (not-true (eqb b 10) two.0) grown
 
--- A text without a line feed has no complete line.
+-- Text without a line feed has no complete line.
 none_whole : (partial front : List ℕ) → list_all (is_not 10) front ≡ true → lines_after false partial front ≡ []
 unfolding lines_after
 none_whole partial [] h = either (eqb (length partial) 0)
@@ -47,7 +47,7 @@ whole_line line h =
     rw (not-true (eqb (slice_index line (length line - 1)) 13) (at_passes (is_not 13) line (length line - 1) refl h))
     refl
 
--- The place where a text is cut off: in its first line, or after that line.
+-- The place where text is truncated: in its first line, or after that line.
 abbrev CutIn : (line more front rest : List ℕ) → Type 0
 CutIn line more front rest =
     (list_all (is_not 10) front ≡ true) ⊎
@@ -129,7 +129,7 @@ events_then : (line : List ℕ) (lines : List (List ℕ)) (event : Option Event)
 unfolding events_of
 events_then line lines event events h k = rw (h, k) refl
 
--- The events of an entry and the text after it are the event of the entry and the events of that text.
+-- If an entry is put in front of some text, the entry's event, if there is one, comes before the events of the text.
 entry_lines : (ended : Bool) (entry : Entry) (rest : List ℕ) (events : List Event) → IsRecorded entry →
     events_of (lines_after ended [] rest) ≡ Some events →
     events_of (lines_after ended [] (entry_text entry ++ 10 ∷ rest)) ≡ Some (then_all (event_in entry) events)
@@ -151,7 +151,7 @@ recordings_are_read (entry ∷ entries) all =
     entry_lines true entry (recording_of entries) (events_in entries) first others ∙
     ap Some (sym (events_in_then entry entries))
 
--- The complete lines in the prefix of a recording are a script of the first events.
+-- The complete lines in the prefix of a recording are a script of the first entries' events.
 abbrev IsFrontRead : List Entry → List ℕ → Type 0
 IsFrontRead entries front =
     (first : List Entry) × (others : List Entry) × (entries ≡ first ++ others)

@@ -34,7 +34,7 @@ use Rattle.mg_reply.specs.aids.Width.{TooLongByText, AllItemsAreKept, is_wide, i
 use Rattle.mg_core.specs.Answer.{with_front, item_replied, mark_after, replied_to, request_replied, run_and_kept, sent_text, without_ranges}
 use Rattle.mg_core.specs.aids.Answers.{unless_kept}
 
--- The error that replaces a reply that is too long is short.
+-- The error that replaces an overlong reply is itself short enough.
 pub refusal_short : (n : ℕ) → n < 2 ^ 32 → length (reply_text n (Fault ReplyTooLong ∷ [])) ≤ 16000
 unfolding error_text error_row
 refusal_short n small = simp length-append (omega (
@@ -49,7 +49,7 @@ ok_from (Err x) e = absurd cc
 
 pub ruleset sending = (refusal_short, ok_from, le-ltb)
 
--- The separator fits in the room, because it fits together with a reply of maximum length.
+-- If the separator and a reply of maximum length fit in the room, the separator alone fits.
 pub fits_marks : (n marks room : ℕ) → n + marks ≤ 1 + room → n ≡ 16001 → marks ≤ room
 fits_marks n marks room le is = omega (arith, le, is)
 
@@ -148,7 +148,7 @@ request_again source sender request state before reported text kept is w h = (
   h,
 )
 
--- A request without a kept reply is run.
+-- If no reply to a request is kept, the request is run.
 pub request_new : (source sender : List ℕ) (request : Request) (old new : CoreState) (before text : List ℕ) →
     kept_text old.kept sender request.number ≡ None
     → TextGrows old new before text (λ w. run_and_kept sender request.number w (replied source request w.gateway)) →
@@ -189,7 +189,7 @@ ranges_taken source sender mark ranges old new text engine counts kept w h = (
   },
 )
 
--- ## The loop over ranges
+-- ## The items of a message
 
 pub is_proper : (source : List ℕ) (xs : List MessageItem) (i : ℕ) (d : MessageItem) → i < length xs →
     are_proper source xs ≡ true → item_is_proper source (get_or xs i d) ≡ true
@@ -200,7 +200,7 @@ requests_more : (xs : List MessageItem) (x : MessageItem) → requests_in (x ∷
 requests_more xs (items.Request r) = refl
 requests_more xs (items.Acknowledgement r) = omega arith
 
--- The number of requests from index `i` on.
+-- The requests from index `i` on are those in item `i` and those in the later items.
 pub requests_from : (xs : List MessageItem) (i : ℕ) (d : MessageItem) → i < length xs →
     requests_in (drop i xs) ≡ requests_in (get_or xs i d ∷ []) + requests_in (drop (i + 1) xs)
 requests_from xs i d lt = ap requests_in (drop_more xs i d lt) ∙ requests_more (drop (i + 1) xs) (get_or xs i d)

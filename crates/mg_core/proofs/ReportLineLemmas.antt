@@ -14,7 +14,7 @@ use Rattle.mg_sdp.proofs.ReadBackLemmas.{all_append}
 use Rattle.mg_core.specs.Flows.{line_head, name_in_line, names_in_line}
 use Rattle.mg_core.proofs.ReadBackLemmas.{cut_seam, decimals_above, is_not}
 
--- ## What a line says
+-- ## The fact in a line
 
 pub data Said : Type 0 where
   Ended : Said
@@ -38,7 +38,7 @@ said_text (Hears talkers) = codes "hears" ++ names_in_line talkers
 abbrev pub line_of : ℕ → Entry → List ℕ
 line_of ticks e = line_head ticks e.number ++ ((32 ∷ said_text e.said) ++ codes "\n")
 
--- A number below this bound is determined by its decimal text.
+-- The number fits in 64 bits, so its decimal text determines the number.
 abbrev pub IsShort : ℕ → Type 0
 IsShort n = n < 2 ^ 64
 
@@ -53,12 +53,13 @@ pub record IsShortEntry (e : Entry) : Type 0 where
   pub number : IsShort e.number
   pub said : AreShort e.said
 
--- ## Parts of a text
+-- ## The parts of a line
 
 pair_same : (p q : List ℕ × List ℕ) → Some p ≡ Some q → p ≡ q
 pair_same p q e = cc
 
--- If two texts are equal, so are their parts before and after the first occurrence of a byte.
+-- Suppose two equal strings each have a first occurrence of the same byte. Then their parts before this byte are equal,
+-- and so are their parts after it.
 two_parts : (byte : ℕ) (a b s t : List ℕ) → list_all (is_not byte) a ≡ true → list_all (is_not byte) b ≡ true →
     a ++ byte ∷ s ≡ b ++ byte ∷ t → (a ≡ b) × (s ≡ t)
 two_parts byte a b s t h k e =
@@ -70,7 +71,7 @@ two_parts byte a b s t h k e =
 decimal_plain : (byte n : ℕ) → byte < 48 → IsShort n → list_all (is_not byte) (decimal n) ≡ true
 decimal_plain byte n small short = decimal_passes (is_not byte) (decimals_above byte small) n short
 
--- If two texts that start with a number and a space are equal, so are the numbers and the rests.
+-- Suppose two equal strings start with a number and a space. Then the numbers are equal, and so are the rests.
 number_then : (m n : ℕ) (s t : List ℕ) → IsShort m → IsShort n → decimal m ++ 32 ∷ s ≡ decimal n ++ 32 ∷ t →
     (m ≡ n) × (s ≡ t)
 number_then m n s t h k e =
@@ -78,7 +79,7 @@ number_then m n s t h k e =
     (decimal_plain 32 n (omega arith) k) e in
     (decimal_injective m n h k two.0, two.1)
 
--- ## Names
+-- ## The names of talkers in a line
 
 -- Names with a space after each of them.
 abbrev after_space : List ℕ → List ℕ
@@ -114,7 +115,7 @@ names_same (n ∷ ns) (m ∷ ms) h k e =
     let rest : after_space (n ∷ ns) ≡ after_space (m ∷ ms) = cc in
     spaced_same (n ∷ ns) (m ∷ ms) h k rest
 
--- ## What is said
+-- ## The text of a fact
 
 mode_same : (a b : Mode) → mode_text a ≡ mode_text b → a ≡ b
 unfolding mode_text

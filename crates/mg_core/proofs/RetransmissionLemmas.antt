@@ -39,7 +39,7 @@ reply_of source sender request w = record {
   text = (run_and_kept sender request.number w (replied source request w.gateway)).0;
 }
 
--- Comparing names while ignoring case is reflexive and symmetric.
+-- The comparison of names that ignores case is reflexive (`own`) and symmetric (`turned`).
 own : (a : List ℕ) → str_eq_ignore_ascii_case a a ≡ true
 own a = (bytes_eq-Decides (str_to_ascii_lowercase a) (str_to_ascii_lowercase a)).1 refl
 
@@ -66,7 +66,7 @@ has_history : (w next : World) (bytes : List ℕ) (reading : MessageReading) (an
     answered bytes reading w ≡ (answer, next) → (P : World → Type 0) → P (answered bytes reading w).1 → P next
 has_history w next bytes reading answer represents P h = subst P (ap (λ (p : Option (List ℕ) × World). p.1) represents) h
 
--- ## A reply that stays
+-- ## A reply that stays kept
 
 module _ (few : FewNewerStay) (unnamed : UnnamedStay) (sender text : List ℕ) (number : ℕ) where
   -- The reply is kept, and at most `n` replies are newer.
@@ -166,7 +166,7 @@ new_reply_is_newest newest source sender request w none =
     (replied_by source sender request w None none)
     ∙ newest w.replies (reply_of source sender request w) sender none (own sender)
 
--- ## A reply that is gone
+-- ## A reply that was dropped
 
 module _ (gone : DroppedStayDropped) (sender : List ℕ) (number : ℕ) where
   abbrev IsGone : List KeptReply → Type 0
@@ -264,7 +264,7 @@ dropped_requests_are_rerun gone letters sender number w last events sent source 
     events_leave gone sender number w last events sent out run none in
     replied_by source same again last None missing
 
--- ## Distinct replies
+-- ## No two kept replies answer the same request
 
 module _ (distinct : KeptStayDistinct) where
   ranges_keep : (from : List ℕ) (ranges : List Range) (replies : List KeptReply) → AreKept replies →

@@ -120,7 +120,7 @@ module _ (shown : Shown) where
     written = appends_then a b c h.text k.text h.written k.written;
   }
 
-  -- If nothing more is written and the world is unchanged, the lines were run as before.
+  -- Lines stay run if the writer's content and the world stay the same.
   ran_kept : (w v u : World) (xs : List (List ℕ)) (a b c : Option (List ℕ)) → Ran shown w xs v a b → Keeps b c → u ≡ v →
       Ran shown w xs u a c
   ran_kept w v u xs a b c h k same = subst (λ (x : World). Ran shown w xs x a c) (sym same)
@@ -194,7 +194,7 @@ module _ (shown : Shown) where
     h.3,
   )
 
-  -- A line feed ends a line, which was run.
+  -- If a line feed ends a line, and the line was run, one more line of the bytes was run.
   pub bytes_line : (n m : ℕ) (partial front left : List ℕ) (w v u : World) (s t z : ℕ) (a b c : Option (List ℕ))
       (number : ℕ) → BytesRan shown n m partial front left w v s t a b (Ok tt) →
       LineRan shown number (without_return left) v u t z b c (Ok tt) →
@@ -212,7 +212,7 @@ module _ (shown : Shown) where
         counted_both w v u h.0 (line ∷ []) s t z a b c h.3 k,
       )
 
-  -- A line feed ends a line, which was not run.
+  -- If a line feed ends a line, and running the line failed, the run of the bytes stops with the same fault.
   pub bytes_stop : (n m p : ℕ) (partial front left back other : List ℕ) (w v u : World) (s t z : ℕ)
       (a b c : Option (List ℕ)) (e : LineFault) → BytesRan shown n m partial front left w v s t a b (Ok tt) →
       LineRan shown (m + 1) (without_return left) v u t z b c (Err e) →
@@ -246,7 +246,7 @@ module _ (shown : Shown) where
     ran_kept w v u h.0 a b c h.3.ran l.0 l.1,
   )
 
-  -- One more byte makes the line too long.
+  -- If one more byte makes the line too long, the line is bad.
   pub bytes_long : (n m p : ℕ) (partial front left back other : List ℕ) (w v : World) (s t z : ℕ) (a b : Option (List ℕ))
       (x : ℕ) → x ≢ 10 → 140001 ≤ length left → BytesRan shown n m partial front left w v s t a b (Ok tt) →
       BytesRan shown n p partial (front ++ (x ∷ back)) other w v s z a b (Err (faults.Bad (m + 1)))
@@ -593,7 +593,7 @@ module _ (shown : Shown) where
         tt,
       )
 
-  -- ## How far a run has come, by an engine
+  -- ## The progress of a runner
 
   -- The script was run this far, and the runner follows the resulting world.
   abbrev pub Comes : Config → Option (List ℕ) → Option (List ℕ) → List ℕ → ℕ → LineRunner → ℕ → Option (List ℕ) →

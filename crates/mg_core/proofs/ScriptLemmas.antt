@@ -21,7 +21,7 @@ use Rattle.mg_core.specs.World.{World, capped, counts_of, start_of}
 use Rattle.mg_core.specs.aids.Stands.{StandsFor}
 use Rattle.mg_core.proofs.LineLemmas.{no_text, same_appends, sent_at_once}
 
--- ## Faults, in the form that is told
+-- ## The faults of a run
 
 module _ (config : Config) (shown : Shown) (input rest old new : Option (List ℕ)) where
   at_bad_line : (number : ℕ) → RanToBadLine config shown input rest number old new →

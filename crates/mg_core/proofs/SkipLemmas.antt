@@ -1,4 +1,4 @@
--- The world after ticks, one after another.
+-- The world after several ticks.
 use Rattle.std.proofs.Common.{◌≡◌, ℕ, zero, suc, ◌+◌, List, [], ◌++◌, map, replicate, refl, ◌∙◌, arith}
 use Rattle.mg_engine.specs.Tick.{after_tick, after_ticks, concealed_in_tick, concealed_in_ticks}
 use Rattle.mg_core.specs.declared.event.Event.TheVariants.{Tick}
@@ -52,7 +52,7 @@ ticks_counted (suc n) w =
       };
     })
 
--- Ticks are events, and each tick sends its packets.
+-- A run of `n` ticks ends in the world after `n` ticks.
 ticks_run : (n : ℕ) (w : World) → (sent : List Sent) × Run w (replicate n Tick) sent (world_after_ticks n w)
 ticks_run zero w = ([], (refl, refl))
 ticks_run (suc n) w =

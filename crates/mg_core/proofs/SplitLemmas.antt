@@ -29,7 +29,7 @@ at_feed ended partial front left back more lines h =
     ap (lines_after ended partial) (append_assoc front (10 ∷ back) more) ∙ h ended (10 ∷ (back ++ more)) ∙
     ap (λ (l : List (List ℕ)). lines ++ l) (line_feed ended left (back ++ more))
 
--- A line feed ends the partial line, if no text follows the bytes.
+-- If no text follows the bytes, a line feed after the first bytes also ends the partial line.
 pub at_last_feed : (partial front left back : List ℕ) (lines : List (List ℕ)) →
     ((ended : Bool) (more : List ℕ) → lines_after ended partial (front ++ more) ≡ lines ++ lines_after ended left more)
     → lines_after false partial (front ++ (10 ∷ back)) ≡ lines ++ without_return left ∷ lines_after false [] back
@@ -46,7 +46,7 @@ return_long : (t : Bool) (line : List ℕ) (n : ℕ) → n + 1 ≤ length line �
 return_long true line n le = omega (arith, length-take (length line - 1) line)
 return_long false line n le = omega arith
 
--- The first of these lines is too long.
+-- The first line in this list is too long.
 pub record StartsLong (lines : List (List ℕ)) : Type 0 where
   pub bad : List ℕ
   pub others : List (List ℕ)
@@ -110,6 +110,6 @@ unbroken (x ∷ text) h ended partial more =
     ∙ unbroken text (λ k lt. h (suc k) (omega arith)) ended (partial ++ x ∷ []) more
     ∙ ap (λ (l : List ℕ). lines_after ended l more) (regroup partial x text)
 
--- A text consists of the bytes before an index, the byte at the index, and the bytes after it.
+-- Bytes consist of those before an index, the byte at the index, and those after it.
 pub around : (bytes : List ℕ) (i : ℕ) → i < length bytes → take i bytes ++ (get_or bytes i 0 ∷ drop (i + 1) bytes) ≡ bytes
 around bytes i lt = ap (λ (l : List ℕ). take i bytes ++ l) (sym (drop_more bytes i 0 lt)) ∙ take-append-drop i bytes

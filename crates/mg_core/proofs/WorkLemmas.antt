@@ -28,7 +28,7 @@ kept_in : (state : CoreState) (w : World) (sender : List ℕ) (n : ℕ) (o : Opt
     kept_text state.kept sender n ≡ o → o ≡ kept_text w.replies sender n
 kept_in state w sender n o h is = sym is ∙ ap (λ (l : List KeptReply). kept_text l sender n) (sym h.replies)
 
--- A request without a kept reply costs its edits.
+-- If no reply to a request is kept, the request costs its edits.
 pub request_paid : (source sender : List ℕ) (request : Request) (old new : CoreState) →
     kept_text old.kept sender request.number ≡ None
     → IsPaid old new (λ w. edits_reported (replied source request w.gateway).items) →
@@ -44,8 +44,8 @@ nothing_paid old new edits same w h = stays (4 * edits w) old.engine.sums.work n
 
 -- ## The loop over items
 
--- The loop over items. In each world that the state on entry represents, the edits done so far are paid for, and `rest`
--- counts the remaining edits.
+-- The invariant of the loop: in each world that the state on entry represents, the edits done so far are paid for, and
+-- `rest` counts the remaining edits.
 abbrev pub IsPaidSoFar : CoreState → CoreState → (World → ℕ) → (World → ℕ) → Type 0
 IsPaidSoFar entered kept f rest = (w : World) → StandsFor entered w → (now : World) × (done : ℕ) ×
     (f w ≡ done + rest now) × RisesAtMost (4 * done) entered.engine.sums.work kept.engine.sums.work × StandsFor kept now

@@ -44,8 +44,8 @@ has_requests xs = list_any is_request xs
 
 -- ## A request
 
--- The reply to a request that is run, and the world after the request: the gateway after the
--- request's commands, with the reply kept.
+-- The reply to a request that is run, and the world after it. In that world, the gateway has run the request's
+-- commands, and the reply is kept.
 abbrev pub run_and_kept : List ℕ → ℕ → World → TransactionState → List ℕ × World
 run_and_kept sender n w s =
     let text = sent_text n s.items in (
@@ -71,7 +71,7 @@ without_ranges sender [] replies = replies
 without_ranges sender (x ∷ xs) replies =
     without_ranges sender xs (without_range sender x.first x.last replies)
 
--- The written text with this text in front, and the world.
+-- Puts this text in front of the written text. The world stays the same.
 abbrev pub with_front : List ℕ → List ℕ × World → List ℕ × World
 with_front text p = (text ++ p.0, p.1)
 
@@ -88,12 +88,12 @@ abbrev pub mark_after : List ℕ → MessageItem → List ℕ
 mark_after mark (items.Request request) = 10 ∷ []
 mark_after mark (items.Acknowledgement ranges) = mark
 
--- The text of the first part, followed by that of the rest, which starts in the world that the first part left.
+-- The text of the first part, followed by the text of the rest. The rest runs in the world that the first part left.
 abbrev pub followed : (World → List ℕ × World) → List ℕ × World → List ℕ × World
 followed rest p = with_front p.0 (rest p.1)
 
--- The replies to the requests among the items, with this separator before the first, and the world
--- after all of them. Each item is handled in the world that the previous one left.
+-- The replies to the requests among the items, with this separator before the first reply, and the world after all
+-- items. Each item is handled in the world that the previous item left.
 unfoldable pub replied_to : List ℕ → List ℕ → List ℕ → List MessageItem → World → List ℕ × World
 replied_to source sender mark [] w = ([], w)
 replied_to source sender mark (x ∷ xs) w =
@@ -110,7 +110,7 @@ abbrev pub if_asked : Bool → List ℕ → List ℕ × World → Option (List �
 if_asked true head p = (Some (head ++ p.0), p.1)
 if_asked false head p = (None, p.1)
 
--- The answer to a message in the world `w`, if there is an answer, and the world after it.
+-- The answer to a message in the world `w`, or `None` if the message has no request, and the world after the message.
 abbrev pub to_message : List ℕ → Message → World → Option (List ℕ) × World
 to_message source m w =
     if_asked (has_requests (items_of m.body)) (answer_head w)
@@ -126,7 +126,7 @@ answered source TooMany w = refused NotServed w
 answered source (OtherVersion n) w = refused Version w
 answered source NoMessage w = refused Syntax w
 
--- The answer to a datagram, if there is an answer, and the world after it, according to the datagram's reading.
+-- According to its reading, a datagram gets this answer (or none) in the world `w`, and leads to the next world.
 abbrev pub Answers : List ℕ → World → Option (List ℕ) → World → Type 0
 Answers source w answer next =
     (reading : MessageReading) × IsMessageReading source reading

@@ -51,9 +51,9 @@ abbrev pub NextTickIsSame : List ℕ → ℕ → World → World → Type 0
 NextTickIsSame some port a b =
     HearsNoneAt some a.gateway port → next_packets port a ≡ next_packets port b
 
--- ## Two lists of events
+-- ## Two lists of events that differ in RTP datagrams
 
--- An event in both lists, or an RTP datagram in one of them.
+-- An event in both lists, or an RTP datagram in only one of them.
 pub data Happening : Type 0 where
   Both : (event : Event) → Happening
   FirstOnly : (port : ℕ) (source : Peer) (bytes : List ℕ) → Happening
@@ -71,7 +71,7 @@ to_second (Both event ∷ xs) = event ∷ to_second xs
 to_second (FirstOnly port source bytes ∷ xs) = to_second xs
 to_second (SecondOnly port source bytes ∷ xs) = Media port source bytes ∷ to_second xs
 
--- Each RTP datagram that is in only one of the lists arrives at the port of one of these terminations.
+-- Only RTP datagrams at the ports of these terminations can be in one list alone.
 abbrev pub DifferAtPortsOf : List ℕ → World → List Happening → Type 0
 DifferAtPortsOf some w [] = Unit {0}
 DifferAtPortsOf some w (Both event ∷ xs) =
@@ -83,10 +83,9 @@ DifferAtPortsOf some w (FirstOnly port source bytes ∷ xs) =
 DifferAtPortsOf some w (SecondOnly port source bytes ∷ xs) =
     IsPortAmong some w.gateway port × DifferAtPortsOf some w xs
 
--- If two worlds agree outside some terminations, and receive events that differ only in RTP
--- datagrams at the ports of those terminations, they still agree afterwards. The next tick sends
--- the same packet to each listener that hears none of these terminations in that tick, whatever the
--- listener heard before.
+-- Suppose two worlds agree outside some terminations, and their events differ only in RTP datagrams at the ports of
+-- these terminations. Then the worlds still agree afterwards. The next tick sends the same packet to each listener that
+-- hears none of these terminations in that tick, whatever the listener heard before.
 abbrev pub UnheardChangesNothing : Type 0
 UnheardChangesNothing =
     (some : List ℕ) (port : ℕ) (a b x y : World) (xs : List Happening) (s t : List Sent)

@@ -20,17 +20,17 @@ ticks_in line =
     if bytes_eq (take 6 line) (codes "ticks ") && not (bytes_eq (take 1 (drop 6 line)) (codes "0"))
     then decimal_of 20 18446744073709551615 (drop 6 line) else None
 
--- The lines as which a line is read, if ticks are counted there or not.
+-- The lines that a line is read as. `counts` says whether ticks are counted there.
 abbrev pub lines_in : (counts : Bool) → List ℕ → List (List ℕ)
 lines_in false line = line ∷ []
 lines_in true line = option_map_or (λ n. replicate n (codes "tick")) (ticks_in line) (line ∷ [])
 
--- The lines as which these lines are read.
+-- The lines that these lines are read as. `counts` says whether ticks are counted in the first line.
 unfoldable pub expanded : (counts : Bool) → List (List ℕ) → List (List ℕ)
 expanded counts [] = []
 expanded counts (line ∷ lines) = lines_in counts line ++ expanded (counts || is_mark line) lines
 
--- The lines as which a text is read.
+-- The lines that a journal's text is read as.
 abbrev pub journal_lines : (ended : Bool) → List ℕ → List (List ℕ)
 journal_lines ended text = expanded false (lines_of ended text)
 
@@ -46,7 +46,7 @@ CountsAreTicks =
     (count : ℕ) → 0 < count → count < 2 ^ 64
     → events_of (expanded true (lines_of true (ticks_line count))) ≡ Some (replicate count Tick)
 
--- A script in which no line counts ticks is read as it is, whether or not ticks are counted.
+-- A script in which no line counts ticks is read unchanged, whether or not ticks are counted.
 abbrev pub OtherScriptsStay : Type 0
 OtherScriptsStay =
     (counts : Bool) (lines : List (List ℕ)) (events : List Event)

@@ -18,15 +18,15 @@ abbrev pub is_tick : Event → Bool
 is_tick Tick = true
 is_tick _ = false
 
--- After any sequence of events, the counts of control datagrams, RTP datagrams and ticks equal their numbers, and each
--- RTP datagram has one outcome. The step of a datagram determines its outcome, and the step of a tick determines the
--- frames that it conceals.
+-- The counts of control datagrams, RTP datagrams and ticks equal the numbers of these events. The counts of outcomes
+-- add up to the number of RTP datagrams.
 pub record CountsOf (events : List Event) (w : World) : Type 0 where
   pub control : w.tally.control ≡ count_by is_control events
   pub media : w.tally.media ≡ count_by is_media events
   pub ticks : w.tally.ticks ≡ count_by is_tick events
   pub results : sum w.tally.results ≡ count_by is_media events
 
+-- After any sequence of events, the counts of the world are the numbers of these events.
 abbrev pub EventsAreCounted : Type 0
 EventsAreCounted =
     (config : Config) (events : List Event) (sent : List Sent) (last : World)

@@ -41,8 +41,9 @@ RtpChangesSpeechOnly =
 abbrev pub depths_in : World → List ℕ
 depths_in w = map (λ s. depth_of s.play) w.gateway.media
 
--- After two such histories of gateways that started with the same configuration, the worlds agree except for what was
--- received. Their play lists also have the same depths, because only commands set these.
+-- Suppose two gateways started with the same configuration and have the same events, but only one of them received RTP
+-- datagrams. Then their worlds agree except for what was received. Their play lists also have the same depths, because
+-- only commands set a depth.
 abbrev pub RtpChangesSpeechOnlyInHistories : Type 0
 RtpChangesSpeechOnlyInHistories =
     (config : Config) (events : List Event) (s t : List Sent) (v w : World)

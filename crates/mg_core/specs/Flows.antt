@@ -84,12 +84,12 @@ hearing ticks x = change_line ticks x (codes " hears" ++ names_in_line x.talkers
 
 -- ## Changes
 
--- The line for an earlier termination, if it no longer exists.
+-- The line for an earlier termination that no longer exists, or nothing if it still exists.
 abbrev pub lines_of_old : ℕ → List Listener → Listener → List ℕ
 lines_of_old ticks after x = if is_some (listener_at after x.number) then [] else ended_line ticks x
 
--- The lines for a termination that exists. A new one is reported completely. For an older one, only changes are
--- reported: to its context, its mode, and the talkers whose speech flows to it.
+-- The lines for a termination that exists. A new termination is reported completely. Of an earlier termination, only
+-- these changes are reported: its context, its mode, and the talkers whose speech flows to it.
 abbrev pub lines_of_new : ℕ → Option Listener → Listener → List ℕ
 lines_of_new ticks None x =
     made_line ticks x ++ (in_mode ticks x ++
@@ -99,18 +99,18 @@ lines_of_new ticks (Some old) x =
     ((if is_same_mode old.mode x.mode then [] else in_mode ticks x) ++
     (if bytes_eq old.talkers x.talkers then [] else hearing ticks x))
 
--- All changes from the earlier to the later state of the terminations.
+-- The lines for all changes from the earlier to the later state of the terminations.
 abbrev pub changes : ℕ → List Listener → List Listener → List ℕ
 changes ticks before after =
     flat_map (lines_of_old ticks after) before
     ++ flat_map (λ x. lines_of_new ticks (listener_at before x.number) x) after
 
--- The changes that an event made between two worlds.
+-- The lines for the changes from the world `w` to the next world.
 abbrev pub changes_by : World → World → List ℕ
 changes_by w next =
     changes (capped next.tally.ticks) (listeners_of w.gateway) (listeners_of next.gateway)
 
--- ## Everything that changed, and nothing else
+-- ## The report contains each change, and nothing else
 
 -- A termination without its port, which never changes while the termination exists.
 abbrev pub but_port : Listener → Listener

@@ -21,8 +21,8 @@ HasRun config notes state =
 abbrev pub ticks_of : ℕ → List Note
 ticks_of count = replicate count (Happened Tick)
 
--- The input was read to its end, and its text is a script of these notes. The state is that of a gateway at which their
--- events arrived, and a follower has followed all the notes.
+-- The input was read to its end, and its text is a script with some notes. The state is that of a gateway at which the
+-- events of these notes arrived, and a follower has followed all these notes.
 pub record IsFollowed (config : Config) (input rest : Option (List ℕ)) (state : CoreState)
     (Follows : List Note → Type 0) : Type 0 where
   pub script : List ℕ

@@ -63,13 +63,14 @@ PacketsAreRecomputed state outbox =
 
 -- ## After a rejected command
 
--- A rejected command leaves the gateway unchanged, and adds a kept reply. Flows, totals and the packets of a tick
--- depend only on the gateway. So if two worlds have the same gateway, the same RTP datagrams and ticks lead to the same
--- packets in both, whatever replies they keep. Both worlds end with the same gateway.
+-- Whether an event is an RTP datagram or a tick.
 abbrev pub is_of_media : Event → Bool
 is_of_media (Control source bytes) = false
 is_of_media _ = true
 
+-- A rejected command leaves the gateway unchanged, and adds a kept reply. Flows, totals and the packets of a tick
+-- depend only on the gateway. So if two worlds have the same gateway, the same RTP datagrams and ticks lead to the same
+-- packets in both, whatever replies they keep. Both worlds end with the same gateway.
 abbrev pub GatewayDeterminesFuture : Type 0
 GatewayDeterminesFuture =
     (a b : World) (events : List Event) (s t : List Sent) (x y : World)

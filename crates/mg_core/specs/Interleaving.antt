@@ -20,8 +20,8 @@ is_elsewhere port _ = false
 abbrev pub seen_at : ℕ → List Event → List Event
 seen_at port events = filter (λ e. not (is_elsewhere port e)) events
 
--- Both lists have the same control datagrams and ticks, in the same order. Between any two of them, before the first
--- and after the last, each port receives the same RTP datagrams in the same order.
+-- Both lists have the same control datagrams and ticks, in the same order. Between two of these events, before the
+-- first and after the last, each port receives the same RTP datagrams in the same order.
 abbrev pub AreSameToEachPort : List Event → List Event → Type 0
 AreSameToEachPort a b = (port : ℕ) → seen_at port a ≡ seen_at port b
 
@@ -33,14 +33,16 @@ PortOrderIsIrrelevant =
     → IsStart config → AreSameToEachPort a b
     → Run (start_of config) a s v → Run (start_of config) b t w → (s ≡ t) × (v ≡ w)
 
--- Two gateways that started with the same configuration send the same datagrams, and end in the same world.
+-- Suppose two gateways started with the same configuration, and their events are the same to each port. Then the
+-- gateways send the same datagrams, and end in the same world.
 abbrev pub PortOrderInHistories : Type 0
 PortOrderInHistories =
     (config : Config) (a b : List Event) (s t : List Sent) (v w : World) (one other : CoreState)
     → IsStart config → AreSameToEachPort a b
     → HasHistory config a s v one → HasHistory config b t w other → (s ≡ t) × (v ≡ w)
 
--- Two scripts that were run to the end, in either form, write the same datagrams, and end in the same world.
+-- Suppose two scripts were run to the end in either form of output, and their events are the same to each port. Then
+-- both runs write the same datagrams, and end in the same world.
 abbrev pub PortOrderInScripts : Type 0
 PortOrderInScripts =
     (config : Config) (first second : Shown) (one other : List ℕ) (counts more : Counts)

@@ -30,7 +30,7 @@ HistoriesHaveSameFlows =
 
 -- ## Reports
 
--- Events run one after another, and the text reports the changes of each of them. This is the text of `ReportsChanges`
+-- Events run one after another, and the text reports the changes of each event. The text is that of `ReportsChanges`
 -- without the lines for the datagrams that are sent.
 abbrev pub ReportsOnlyChanges : World → List Event → List ℕ → World → Type 0
 ReportsOnlyChanges w [] text last = (text ≡ []) × (last ≡ w)

@@ -10,7 +10,7 @@ pub data Note : Type 0 where
   Comment : (line : List ℕ) → Note
   Happened : (event : Event) → Note
 
--- The note of a line, given its event, if there is one.
+-- The note of a line with this event, or of a line without an event.
 abbrev pub noted : List ℕ → Option Event → Note
 noted line None = Comment line
 noted line (Some event) = Happened event

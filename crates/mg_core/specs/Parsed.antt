@@ -9,8 +9,9 @@ use Rattle.mg_text.specs.Proper.{are_proper}
 use Rattle.mg_core.specs.declared.parsed.Parsed.{Parsed}
 use Rattle.mg_core.specs.declared.parsed.Parsed.TheVariants.{Message, Refused}
 
--- The bytes are a message with this tree, which is proper. Otherwise they do not follow the grammar, have a head of
--- another version, or exceed a limit, and the error says which. No other error rejects a datagram as a whole.
+-- The reading is a message if the bytes have this tree and the tree is proper. Otherwise the bytes don't follow the
+-- grammar, have a head of another version, or exceed a limit, and the reading is the error for this fault. No other
+-- error rejects a datagram as a whole.
 abbrev pub IsReadingOf : List ℕ → Parsed → Type 0
 IsReadingOf bytes (Message m) =
     IsMessage bytes m

@@ -42,7 +42,7 @@ events_in [] = []
 events_in (Happened event ∷ entries) = event ∷ events_in entries
 events_in (Noted text ∷ entries) = events_in entries
 
--- ## What can be read back
+-- ## Recordings that can be read back
 
 -- A datagram that can arrive. It comes from an IPv4 address and a 16-bit port, and is at most 65,535 bytes long.
 pub record IsDatagram (source : Peer) (bytes : List ℕ) : Type 0 where
@@ -52,7 +52,7 @@ pub record IsDatagram (source : Peer) (bytes : List ℕ) : Type 0 where
   pub length_is : length bytes ≤ 65535
   pub bytes_are : All (λ b. b < 256) bytes
 
--- The entry is an event that can arrive, or a comment of one line that is not too long.
+-- The entry is an event that can arrive, or a one-line comment of at most 1,000 bytes.
 abbrev pub IsRecorded : Entry → Type 0
 IsRecorded (Happened (Control source bytes)) = IsDatagram source bytes
 IsRecorded (Happened (Media port source bytes)) = (port < 65536) × IsDatagram source bytes
@@ -65,7 +65,7 @@ RecordingsAreRead =
     (entries : List Entry) → All IsRecorded entries
     → events_of (lines_of true (recording_of entries)) ≡ Some (events_in entries)
 
--- Wherever a recording is cut off, its complete lines are a script of its first events.
+-- Wherever a recording is truncated, its complete lines are a script of its first events.
 abbrev pub CutRecordingsAreRead : Type 0
 CutRecordingsAreRead =
     (entries : List Entry) (front rest : List ℕ) → All IsRecorded entries

@@ -27,8 +27,8 @@ KeptRepliesAreSent =
     → kept_text w.replies sender request.number ≡ Some text
     → request_replied source sender request w ≡ (text, w)
 
--- A retransmission gets the same answer as the request, in a datagram of any form, with the
--- sender's name in any case. Nothing is executed a second time.
+-- A retransmission gets the same answer as the request, and nothing is executed a second time. Its datagram may have
+-- another form, and the sender's name in it may be in another case.
 abbrev pub RetransmissionsAreAnsweredAlike : Type 0
 RetransmissionsAreAnsweredAlike =
     (source other sender same : List ℕ) (request again : Request) (w : World)
@@ -45,7 +45,7 @@ OthersAreRun =
     → request_replied source sender request w
     ≡ run_and_kept sender request.number w (replied source request w.gateway)
 
--- ## Over time
+-- ## Kept replies over time
 
 -- Whether an item from a sender acknowledges the reply to this sender's request with this number.
 abbrev pub acknowledges : List ℕ → ℕ → List ℕ → MessageItem → Bool
@@ -66,7 +66,7 @@ kept_for from (items.Request request) w =
     if is_none (kept_text w.replies from request.number) then 1 else 0
 kept_for from (items.Acknowledgement ranges) w = 0
 
--- The number of replies that the items of a message add to the kept ones, in order.
+-- The number of replies that the items of a message add to the kept ones, if the items are handled in order.
 abbrev pub kept_for_all : List ℕ → List ℕ → List MessageItem → World → ℕ
 kept_for_all source from [] w = 0
 kept_for_all source from (x ∷ xs) w =
@@ -107,7 +107,7 @@ NewReplyIsNewest =
     → kept_text w.replies sender request.number ≡ None
     → newer_than (request_replied source sender request w).1.replies sender request.number ≡ []
 
--- An acknowledgement that names a reply drops it.
+-- An acknowledgement that names a reply drops this reply.
 abbrev pub AcknowledgedAreDropped : Type 0
 AcknowledgedAreDropped =
     (source sender from mark : List ℕ) (number : ℕ) (item : MessageItem) (w : World)
@@ -130,7 +130,7 @@ IsNotRequested sender number (Control source bytes) =
     → list_any (is_request_for sender number (text_of bytes m.sender)) (items_of m.body) ≡ false
 IsNotRequested sender number _ = Unit {0}
 
--- After a reply was dropped, the request is run again if it is retransmitted.
+-- After a reply was dropped, its request is run again if it is retransmitted.
 abbrev pub DroppedRequestsAreRerun : Type 0
 DroppedRequestsAreRerun =
     (sender : List ℕ) (number : ℕ) (w last : World) (events : List Event) (sent : List Sent)

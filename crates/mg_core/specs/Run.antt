@@ -50,7 +50,7 @@ ReportsChanges w (event ∷ events) text last =
     × Step w event sent next × ReportsChanges next events others last
     × (text ≡ lines_for sent ++ (changes_by w next ++ others))
 
--- The text that is written for events that send these datagrams.
+-- In this form of output, the text is written for these events, which send these datagrams.
 abbrev pub IsShownText : Shown → World → List Event → List Sent → List ℕ → World → Type 0
 IsShownText shows.Sent w events sent text last = text ≡ lines_for sent
 IsShownText shows.SentAndFlows w events sent text last = ReportsChanges w events text last
@@ -118,8 +118,8 @@ abbrev pub IsNextLine : (text : List ℕ) → (ended : Bool) → (lines : List (
 IsNextLine text ended lines line =
     (others : List (List ℕ)) × (lines_of ended text ≡ lines ++ line ∷ others)
 
--- The reason why a run stopped after these lines of the text, in the world `w`. A writer had the content `held` after
--- their output.
+-- The reason why a run stopped after these lines of the text, in the world `w`. After the output of these lines, the
+-- writer had the content `held`.
 abbrev pub Stops : RunFault → Shown → (text : List ℕ) → (ended : Bool) → (lines : List (List ℕ))
     → World → (held new : Option (List ℕ)) → Type 0
 -- The next line has this number and is bad, whatever text may follow. No text follows if the input has ended.
@@ -142,7 +142,7 @@ Stops faults.NoMemory shown text ended lines w held new =
 Stops faults.BadConfig shown text ended lines w held new =
     (new ≡ held) × (text ≡ []) × (lines ≡ [])
 
--- A run stopped at a fault, after these lines of the text that was read were run completely.
+-- A run stopped at a fault. Before that, it ran these lines of the text completely.
 pub record RanToFault (config : Config) (shown : Shown) (input rest old new : Option (List ℕ))
     (fault : RunFault) : Type 0 where
   pub text : List ℕ

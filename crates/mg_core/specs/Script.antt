@@ -54,7 +54,7 @@ ok_of (Err e) = None
 abbrev pub datagram : List ℕ → Option (List ℕ)
 datagram bytes = if nat_le (length bytes) 65535 then Some bytes else None
 
--- The spelling of a datagram's bytes, which the first word of a line determines.
+-- The first word of a line determines how the bytes of its datagram are spelled.
 unfoldable pub spelling_of : List ℕ → Option Spelling
 spelling_of key =
     if bytes_eq key (codes "say") then Some Text
@@ -72,7 +72,7 @@ bytes_of key spelled = spelled_bytes (spelling_of key) spelled
 abbrev pub an_event : Event → Option (Option Event)
 an_event e = Some (Some e)
 
--- The RTP datagram in three parts, separated by single spaces: a media port, a peer, and hexadecimal digits.
+-- The RTP datagram in text with three parts, separated by single spaces: a media port, a peer, and hexadecimal digits.
 unfoldable pub rtp_of : List ℕ → Option (Option Event)
 rtp_of parts = do
   first ← cut 32 parts
@@ -115,7 +115,7 @@ event_of line =
     else (if bytes_eq line (codes "tick") then an_event Tick
     else datagram_of line))
 
--- The events, with this event in front if there is one.
+-- Adds this event, if there is one, to the front of the events.
 abbrev pub then_all : Option Event → List Event → List Event
 then_all None events = events
 then_all (Some event) events = event ∷ events

@@ -16,11 +16,11 @@ pub data Sent : Type 0 where
   Reply : (to : Peer) (text : List ℕ) → Sent
   Packet : (datagram : Datagram) → Sent
 
--- The answer, which goes to the source of the datagram.
+-- The datagrams to send for an answer to a peer: the answer, or nothing if there is no answer.
 abbrev pub answer_to : Peer → Option (List ℕ) → List Sent
 answer_to source answer = option_map_or (λ text. Reply source text ∷ []) answer []
 
--- The answer that a core reports, with its text.
+-- The text if the core reports an answer, otherwise `None`.
 abbrev pub reported : Answer → List ℕ → Option (List ℕ)
 reported Send text = Some text
 reported Silent text = None

@@ -14,7 +14,7 @@ use Rattle.mg_commands.specs.Work.{edits_reported}
 use Rattle.mg_core.specs.Answer.{item_replied}
 use Rattle.mg_core.specs.World.{World}
 
--- The number of edits of a request. A request that is answered with a kept reply doesn't cause any.
+-- The number of edits of a request. A request that is answered with a kept reply causes no edits.
 abbrev pub edits_unless_kept : Option (List ℕ) → List Item → ℕ
 edits_unless_kept (Some text) reported = 0
 edits_unless_kept None reported = edits_reported reported
@@ -26,14 +26,14 @@ edits_by_item source sender (items.Request request) w =
     (replied source request w.gateway).items
 edits_by_item source sender (items.Acknowledgement ranges) w = 0
 
--- The number of edits of several items, each in the world that the previous one left.
+-- The number of edits of several items, each handled in the world that the previous item left.
 unfoldable pub edits_by_items : List ℕ → List ℕ → List MessageItem → World → ℕ
 edits_by_items source sender [] w = 0
 edits_by_items source sender (x ∷ xs) w =
     edits_by_item source sender x w
     + edits_by_items source sender xs (item_replied source sender [] x w).1
 
--- The number of edits of a datagram. One that is rejected as a whole doesn't cause any.
+-- The number of edits of a datagram. A datagram that is rejected as a whole causes no edits.
 abbrev pub edits_by : List ℕ → MessageReading → World → ℕ
 edits_by source (Read m) w = edits_by_items source (text_of source m.sender) (items_of m.body) w
 edits_by source _ w = 0

@@ -15,8 +15,8 @@ use Rattle.mg_engine.specs.Tick.{after_tick, concealed_in_tick, sent_in_tick}
 use Rattle.mg_engine.specs.Gateway as engine
 use Rattle.mg_core.specs.declared.counts.Counts.{Counts}
 
--- The numbers of control datagrams, RTP datagrams and ticks, of RTP datagrams with each outcome, and of frames played
--- in place of missing ones.
+-- The counts of a world: control datagrams, RTP datagrams in total and by outcome, ticks, and frames played in place of
+-- missing frames.
 pub record Tally : Type 0 where
   pub control : ℕ
   pub media : ℕ
@@ -40,7 +40,7 @@ start_of config = record { gateway = engine.start_of config; replies = []; tally
 
 -- ## Counting
 
--- The index of an outcome's count in the list.
+-- The index of an outcome's count in `results`.
 abbrev pub result_place : Taken → ℕ
 result_place (takens.Placed placed.Started) = 0
 result_place (takens.Placed placed.Placed) = 1
@@ -69,7 +69,7 @@ with_tick concealed t = record t { ticks = t.ticks + 1; concealed = t.concealed 
 abbrev pub capped : ℕ → ℕ
 capped n = min n (2 ^ 64 - 1)
 
--- The counts of events. The counts that the runner keeps are 0.
+-- A tally as counters, each limited to the largest 64-bit value. The counters that a runner keeps are 0.
 abbrev pub counts_of : Tally → Counts
 counts_of t = record {
   lines = 0;
@@ -89,7 +89,7 @@ counts_of t = record {
 abbrev pub with_control : World → World
 with_control w = record w { tally = record w.tally { control = w.tally.control + 1 } }
 
--- The outcome of an RTP datagram at a port, and the world after it.
+-- An RTP datagram at a port has this outcome, and leads to the next world.
 abbrev pub TakesMedia : World → ℕ → Peer → List ℕ → World → Taken → Type 0
 TakesMedia w port source bytes after result =
     (g : engine.Gateway) × Takes w.gateway port source.address bytes g result

@@ -52,7 +52,7 @@ pub fn put_error(config: &Config, number: ErrorNumber, answer: &mut Bytes)
     write_error(number, answer);
 }
 
-/// Returns the items of a body, or none if the body is ignored.
+/// Returns the items of a body. An ignored body has no items.
 pub fn items_of(body: &Body) -> &[MessageItem]
     ensures value { result.now ≡ items_of body.now }
 {

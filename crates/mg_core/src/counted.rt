@@ -30,8 +30,7 @@ pub fn count_of(digits: &[u8]) -> Option<u64>
     Some(value)
 }
 
-/// Returns the number in a line such as `ticks 12`, or `None` if the line is not such a line. The number has no leading
-/// zeros.
+/// Returns the number in a line such as `ticks 12`, or `None` for any other line. The number has no leading zeros.
 pub(crate) fn ticks_in(line: &[u8]) -> Option<u64>
     ensures value { result ≡ ticks_in line.now }
 {

@@ -38,8 +38,8 @@ pub trait Follower {
     /// Handles consecutive ticks. `core` is the gateway's state before the first of them. Ticks don't change who hears
     /// whom.
     ///
-    /// Called before the next line of another kind, before there would be 2^64 ticks, or at the end of the script, if
-    /// there are any ticks.
+    /// If there are ticks to report, this is called before the next line of another kind, before there would be 2^64
+    /// ticks, and at the end of the script.
     fn ticks(&mut self, core: &Core, count: u64) -> Result<(), Stopped>
         ensures value { (start : Self) (config : Config) (notes : List Note) →
             follows start self.old config notes → HasRun config notes core.now.state →

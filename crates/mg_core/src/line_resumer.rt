@@ -22,7 +22,7 @@ pub struct LineResumer {
     pub core: Core,
     /// The number of ticks that have been counted but not run yet. They come after everything that has been run.
     pub ticks: u64,
-    /// Whether a line such as `ticks 12` is twelve ticks: a line before it says so.
+    /// Whether a line such as `ticks 12` is read as twelve ticks. It is after the line `# counted ticks`.
     pub counts: bool,
 }
 
@@ -61,7 +61,7 @@ impl LineResumer {
         Ok(())
     }
 
-    /// Counts ticks, to be run later. If there would be 2^64 or more, runs those that were counted before.
+    /// Counts ticks, to be run later. If the count would reach 2^64, first runs the ticks that were counted before.
     pub fn take_ticks<F: Follower>(&mut self, count: u64, follower: &mut F) -> Result<(), Stopped>
         ensures value { (start : F) (config : Config) → OnOk result (Adds
             (KeepsUp config self.old.core.state self.old.ticks (HasFollowed F.follows start follower.old config))
@@ -141,7 +141,7 @@ impl LineResumer {
             }
         }
     }
-    /// Returns the number of ticks in a line, or `None` if it doesn't count ticks.
+    /// Returns the number of ticks in a line, or `None` if the line doesn't count ticks.
     fn counted_in(&self, line: &[u8]) -> Option<u64>
         ensures value { result ≡ counted_in self.now.counts line.now }
     {

@@ -35,7 +35,8 @@ fn line_end(text: &[u8]) -> Option<usize>
 const SIXTEEN_TICKS: &[u8; 80] =
     b"tick\ntick\ntick\ntick\ntick\ntick\ntick\ntick\ntick\ntick\ntick\ntick\ntick\ntick\ntick\ntick\n";
 
-/// Counts the `tick` lines at the start of a text, sixteen at a time. Up to fifteen of them may remain uncounted.
+/// Counts the `tick` lines at the start of some text, sixteen at a time. Up to fifteen `tick` lines may remain
+/// uncounted.
 fn leading_ticks(text: &[u8]) -> usize
     ensures value { IsAfterTicks result text.now (drop (5 * result) text.now) }
     ensures within { 5 * result ≤ length text.now }
@@ -135,7 +136,8 @@ impl Resumer {
         Ok(())
     }
 
-    /// Counts the `tick` lines at the start of a text, except up to fifteen of them. Returns the rest of the text.
+    /// Counts the `tick` lines at the start of some text, and returns the rest of the text. Up to fifteen `tick` lines
+    /// may remain in the rest.
     fn take_ticks<'a, F: Follower>(
         &mut self,
         text: &'a [u8],

@@ -20,8 +20,8 @@ use std::io::{Read, Write};
 /// that exactly the datagrams sent in response to its events were written. The result counts the script's lines, events
 /// and datagrams.
 ///
-/// A fault determines how much of the text read so far was run. The run stopped at one line. All earlier lines were
-/// run, and their output was written completely before any more input was read:
+/// If the run failed, it stopped at one line. All earlier lines were run, and their output was written completely
+/// before any more input was read. The fault says why the run stopped:
 /// - `Script`: carries the number of the first bad line; the lines before it were run.
 /// - `Read`: the lines that had been read completely were run, and no others. A run also ends with `Read` after
 ///   4,294,967,295 reads.

@@ -51,7 +51,7 @@ impl ScriptRunner {
         })
     }
 
-    /// Runs the partial line, which ends here.
+    /// Runs the partial line, which is now complete.
     fn end_line<W: Write>(&mut self, alloc: Global, writer: &mut W) -> Result<(), LineFault>
         requires few { self.old.lines + 1 < 2 ^ 64 }
         ensures partial { OnOk result (self.new.partial.text ≡ []) }

@@ -194,15 +194,15 @@ pub fn events_are_counted()
 
 /// A recording is a script of its events.
 ///
-/// The line for an event is read as that event, and any other line is read as a comment. Wherever a recording is cut
-/// off, its complete lines are a script of its first events.
+/// The line for an event is read as that event, and any other line is read as a comment. Wherever a recording is
+/// truncated, its complete lines are a script of its first events.
 pub fn recordings_are_read()
     ensures theorem { RecordingsAreRead }
     ensures cut { CutRecordingsAreRead }
 {}
 
 /// The line with which a gateway appends ticks to its journal is read as these ticks. A script in which no line counts
-/// ticks is read as it is.
+/// ticks is read unchanged.
 pub fn counted_ticks_are_read()
     ensures line { CountsAreTicks }
     ensures others { OtherScriptsStay }

@@ -15,7 +15,8 @@ use std::io::Write;
 use std::marker::Model;
 use std::mem;
 
-/// The maximum length of the reported changes, in bytes, if every termination ends and as many new ones are created.
+/// The maximum length of the reported changes, in bytes, if every termination ends and as many new terminations are
+/// created.
 const CHANGES_LIMIT: usize = TERMINATIONS * (ENDED_LIMIT + NEW_LIMIT);
 
 /// The terminations of a gateway after its last changes. In contracts, they appear as a list.

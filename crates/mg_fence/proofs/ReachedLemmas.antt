@@ -22,7 +22,7 @@ pub reaches_ticks : (n count : ℕ) → Reaches n (ticks_of count) n
 reaches_ticks n zero = refl
 reaches_ticks n (suc count) = reaches_ticks n count
 
--- The text after the mark of a comment is the number that an operator set.
+-- The number that an operator set in a comment is read from the text after the comment's mark.
 pub set_read : (line mark text : List ℕ) → mark ≡ codes "# fence " → bytes_eq (take (length mark) line) mark ≡ true →
     text ≡ drop (length mark) line → number_of text ≡ number_set line
 set_read line mark text is begins rest =
@@ -31,7 +31,8 @@ set_read line mark text is begins rest =
     ap number_of same
     ∙ sym (ap (λ (b : Bool). cond b (number_of (drop 8 line)) None) first)
 
--- After one more comment, the notes reach the number set in the comment, if it has one.
+-- After one more comment, the notes reach the number that is set in the comment. A comment that sets no number changes
+-- nothing.
 pub reaches_comment : (notes : List Note) (line : List ℕ) (old new : ℕ) → Reaches 0 notes old →
     new ≡ unwrap_or (number_set line) old → Reaches 0 (notes ++ Comment line ∷ []) new
 reaches_comment notes line old new h is = reaches_both 0 old new notes (Comment line ∷ []) h is

@@ -4,8 +4,8 @@ use Rattle.std.specs.Prelude.{unwrap_or}
 use Rattle.std.specs.Str.{bytes_eq}
 use Rattle.mg_fence.specs.declared.fence.Fence.{Fence}
 
--- Whether a message passes: its number must be at least the highest one so far. A message without a number passes a
--- strict fence only if `mg_bridge check` sends it: an audit of ROOT, or the acknowledgement of the reply.
+-- Whether a message passes. Its number must be at least the highest number so far. A message without a number passes a
+-- strict fence only if `mg_bridge check` sends it: an audit of ROOT, or the acknowledgement of the audit's reply.
 abbrev pub passes : Option Fence → List ℕ → (number : Option ℕ) → Bool
 passes None bytes number = true
 passes (Some fence) bytes (Some number) = nat_le fence.reached number
@@ -13,6 +13,6 @@ passes (Some fence) bytes None = not fence.strict
     || (bytes_eq bytes (codes "MEGACO/1 <check>\nTransaction=1{Context=-{AuditValue=ROOT}}")
     || bytes_eq bytes (codes "MEGACO/1 <check>\nTransactionResponseAck{1}"))
 
--- The fence after a message with this number was run.
+-- The fence after a message with this number, or without a number, was run.
 abbrev pub raised_by : (number : Option ℕ) → Fence → Fence
 raised_by number fence = record fence { reached = max fence.reached (unwrap_or number 0) }

@@ -1,4 +1,4 @@
--- The number that a journal has reached, with which the fence of a resumed gateway begins.
+-- The number that a journal has reached. The fence of a resumed gateway starts with this number.
 use Rattle.std.specs.Prelude.{◌≡◌, ℕ, max, List, [], ◌∷◌, codes, take, drop, Option, None, unwrap_or}
 use Rattle.std.specs.Prelude.{if◌then◌else◌}
 use Rattle.std.specs.Str.{bytes_eq}
@@ -7,12 +7,12 @@ use Rattle.mg_core.specs.declared.event.Event.TheVariants.{Control}
 use Rattle.mg_core.specs.Note.{Note, Comment, Happened}
 use Rattle.mg_fence.specs.Number.{HasNumber}
 
--- The number in a comment such as `# fence 17`, with which an operator set the fence.
+-- The number in a comment such as `# fence 17`, in which an operator set the fence.
 abbrev pub number_set : List ℕ → Option ℕ
 number_set line = if bytes_eq (take 8 line) (codes "# fence ") then number_of (drop 8 line) else None
 
--- The highest number among the messages of these notes after an operator last set the fence, starting with the number
--- that the operator set.
+-- The number that these notes reach, starting from the number `from`. A message raises the number to its own number, if
+-- that is higher. A comment in which an operator set the fence replaces the number.
 abbrev pub Reaches : (from : ℕ) → List Note → (last : ℕ) → Type 0
 Reaches from [] last = last ≡ from
 Reaches from (Comment line ∷ notes) last = Reaches (unwrap_or (number_set line) from) notes last

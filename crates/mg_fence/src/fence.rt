@@ -8,7 +8,7 @@ pub const HEARTBEAT: &[u8] = b"MEGACO/1 <check>\nTransaction=1{Context=-{AuditVa
 /// The message that acknowledges the heartbeat's reply, so that the gateway does not keep it.
 pub const ACKNOWLEDGEMENT: &[u8] = b"MEGACO/1 <check>\nTransactionResponseAck{1}";
 
-/// A fence against messages whose number is below `reached`, the highest one so far.
+/// A fence against messages whose number is below `reached`, the highest number so far.
 #[derive(Clone, Copy, Debug, PartialEq, Eq)]
 pub struct Fence {
     pub reached: u32,
@@ -16,7 +16,7 @@ pub struct Fence {
     pub strict: bool,
 }
 
-/// Returns whether `mg_bridge check` sends this message.
+/// Returns whether this is a message that `mg_bridge check` sends.
 fn is_check(bytes: &[u8]) -> bool
     ensures value { result ≡
         (bytes_eq bytes.now (codes "MEGACO/1 <check>\nTransaction=1{Context=-{AuditValue=ROOT}}")
@@ -26,7 +26,7 @@ fn is_check(bytes: &[u8]) -> bool
 }
 
 impl Fence {
-    /// Returns whether a message with this number, or without one, may be run.
+    /// Returns whether a message with this number, or without a number, may be run.
     pub fn passes(&self, bytes: &[u8], number: Option<u32>) -> bool
         ensures value { result ≡ passes (Some self.now) bytes.now number }
     {
@@ -36,7 +36,7 @@ impl Fence {
         }
     }
 
-    /// Returns the fence after a message with this number, or without one, was run.
+    /// Returns the fence after a message with this number, or without a number, was run.
     pub fn raised_by(self, number: Option<u32>) -> Self
         ensures value { result ≡ raised_by number self }
     {

@@ -7,15 +7,15 @@ use mg_core::{Core, Event, Follower, Stopped};
 use mg_words::number_of;
 use std::alloc::Global;
 
-/// Reads the number that a journal has reached: the highest one of its messages since an operator last set the fence.
-/// Stops if memory runs out.
+/// Reads the number that a journal has reached: the highest number of its messages since an operator last set the
+/// fence. Stops if memory runs out.
 #[derive(Drop)]
 pub struct FenceReader {
     alloc: Global,
     pub reached: u32,
 }
 
-/// Returns the number in a comment such as `# fence 17`, with which an operator set the fence.
+/// Returns the number in a comment such as `# fence 17`, in which an operator set the fence.
 fn number_set(line: &[u8]) -> Option<u32>
     ensures value { result ≡ number_set line.now }
 {

@@ -1,4 +1,4 @@
-//! Fencing tokens: a controller that was replaced by another one can't command the gateway any more.
+//! Fencing tokens: a controller that has been replaced can't command the gateway any more.
 //!
 //! The name of a message's sender may begin with a number, as in `MEGACO/1 <17.lobby.example>`. A [`Fence`] stores the
 //! highest number of the messages that were run:

@@ -5,7 +5,7 @@ ghost use Rattle.mg_fence.specs.Number.{number_in};
 use mg_core::Parsed;
 use mg_words::{cut, number_of};
 
-/// Returns whether a text begins with an ASCII letter.
+/// Returns whether the first byte is an ASCII letter.
 fn begins_with_letter(text: &[u8]) -> bool
     ensures value { result ≡ is_ascii_alphabetic (slice_index_or text.now 0 0) }
 {

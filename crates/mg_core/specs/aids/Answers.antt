@@ -6,7 +6,7 @@ use Rattle.mg_commands.specs.Transaction.{replied}
 use Rattle.mg_core.specs.World.{World}
 use Rattle.mg_core.specs.Answer.{run_and_kept}
 
--- The reply to a request, given the kept reply, if there is one.
+-- The reply to a request, and the world after it, if this reply (or none) is kept for the request.
 abbrev pub unless_kept : Option (List ℕ) → List ℕ → List ℕ → Request → World → List ℕ × World
 unless_kept kept source sender request w =
     option_map_or (λ text. (text, w)) kept

@@ -26,7 +26,7 @@ pub record RanInPart (shown : Shown) (w : World) (lines : List (List ℕ)) (last
   pub cut : 0 < length rest
   pub written : Appends old new front
 
--- The lines before the first bad one, which has this number, were run. That line is bad, whatever text may follow the
+-- The first bad line has this number, and the lines before it were run. The line is bad, whatever text may follow the
 -- text that was read. No text follows if the input has ended.
 pub record RanToBadLine (config : Config) (shown : Shown) (input rest : Option (List ℕ))
     (number : ℕ) (old new : Option (List ℕ)) : Type 0 where
@@ -41,7 +41,7 @@ pub record RanToBadLine (config : Config) (shown : Shown) (input rest : Option (
   pub last : World
   pub ran : Ran shown (start_of config) lines last old new
 
--- Exactly the complete lines of the text that was read were run.
+-- In the text that was read, the complete lines were run, and no other lines.
 pub record RanAllRead (config : Config) (shown : Shown) (input rest old new : Option (List ℕ))
     : Type 0 where
   pub text : List ℕ
@@ -49,7 +49,7 @@ pub record RanAllRead (config : Config) (shown : Shown) (input rest old new : Op
   pub last : World
   pub ran : Ran shown (start_of config) (lines_of false text) last old new
 
--- The lines before this one in the text that was read were run, and led to this world.
+-- In the text that was read, the lines before this line were run, and led to this world.
 pub record RanUpTo (config : Config) (shown : Shown) (input rest : Option (List ℕ))
     (line : List ℕ) (now : World) (old new : Option (List ℕ)) : Type 0 where
   pub text : List ℕ
@@ -61,7 +61,7 @@ pub record RanUpTo (config : Config) (shown : Shown) (input rest : Option (List 
   pub line_is : lines_of ended text ≡ lines ++ line ∷ others
   pub ran : Ran shown (start_of config) lines now old new
 
--- The lines before this one were run, and so was this one, but its text was written only in part.
+-- A line and all lines before it were run, but the output of this line was written only in part.
 pub record RanToCutLine (config : Config) (shown : Shown) (input rest old new : Option (List ℕ))
     : Type 0 where
   pub line : List ℕ
@@ -71,7 +71,7 @@ pub record RanToCutLine (config : Config) (shown : Shown) (input rest old new : 
   pub last : World
   pub cut : RanInPart shown now (line ∷ []) last held new
 
--- The lines before this one were run, and this one had no effect.
+-- A line had no effect, and all lines before it were run.
 pub record RanToUnrunLine (config : Config) (shown : Shown) (input rest old new : Option (List ℕ))
     : Type 0 where
   pub line : List ℕ

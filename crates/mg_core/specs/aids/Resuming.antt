@@ -44,11 +44,11 @@ pub record KeepsLines (config : Config) (state : CoreState) (counts : Bool) (tic
 abbrev pub AreGood : List (List ℕ) → Type 0
 AreGood lines = (notes : List Note) × (notes_of (expanded false lines) ≡ Some notes)
 
--- Whatever notes or lines came before, these come in addition.
+-- If `Old` holds for some notes or lines, `New` holds after these elements are appended to them.
 abbrev pub Adds : {A : Type 0} → (Old New : List A → Type 0) → List A → Type 0
 Adds {A = A} Old New more = (before : List A) → Old before → New (before ++ more)
 
--- The line is bad, whatever lines came before it.
+-- The line is bad after any lines for which `Old` holds.
 abbrev pub IsBadLine : (Old : List (List ℕ) → Type 0) → List ℕ → Type 0
 IsBadLine Old line = (before : List (List ℕ)) → Old before → IsBadAfter before line
 
@@ -56,14 +56,14 @@ IsBadLine Old line = (before : List (List ℕ)) → Old before → IsBadAfter be
 abbrev pub counted_in : Bool → List ℕ → Option ℕ
 counted_in counts line = if counts then ticks_in line else None
 
--- Lines were run.
+-- Lines were run: they have notes, and these notes were appended to the earlier ones.
 pub record LinesResumed (Old New : List Note → Type 0) (lines : List (List ℕ)) : Type 0 where
   pub notes : List Note
   pub are : notes_of lines ≡ Some notes
   pub adds : Adds Old New notes
 
--- The result of a step that succeeded, found that the line with this number is bad, or ran out of memory. A follower
--- that may stop can also have stopped.
+-- The result of a step. The step succeeded, found that the line with this number is bad, or ran out of memory. A
+-- follower that may stop can also have stopped.
 abbrev pub Resumes : Bool → (Done : Type 0) → (Bad : ℕ → Type 0) → Result (Unit {0}) LineFault
     → Type 0
 Resumes may_stop Done Bad (Ok done) = Done
@@ -71,27 +71,27 @@ Resumes may_stop Done Bad (Err (stops.Bad number)) = Bad number
 Resumes may_stop Done Bad (Err stops.Write) = may_stop ≡ true
 Resumes may_stop Done Bad (Err stops.NoMemory) = Unit {0}
 
--- An event was run.
+-- An event was run, or the step ran out of memory, or a follower stopped.
 abbrev pub EventResumed : Bool → Event → (Old New : List Note → Type 0)
     → Result (Unit {0}) LineFault → Type 0
 EventResumed may_stop event Old New result =
     Resumes may_stop (Adds Old New (Happened event ∷ [])) (λ bad. ⊥) result
 
--- The line with this number, which doesn't count ticks, was run, or is bad.
+-- A line that doesn't count ticks was run, or is bad. `number` is its number.
 abbrev pub LineResumed : Bool → ℕ → List ℕ → (Old New : List Note → Type 0)
     → Result (Unit {0}) LineFault → Type 0
 LineResumed may_stop number line Old New result =
     Resumes may_stop (LinesResumed Old New (line ∷ []))
     (λ bad. (bad ≡ number) × (event_of line ≡ None)) result
 
--- The line with this number was read, or is bad.
+-- A line was read, or is bad. `number` is its number.
 abbrev pub LineRead : Bool → ℕ → List ℕ → (Old New : List (List ℕ) → Type 0)
     → Result (Unit {0}) LineFault → Type 0
 LineRead may_stop number line Old New result =
     Resumes may_stop (Adds Old New (line ∷ []))
     (λ bad. (bad ≡ number) × IsBadLine Old line) result
 
--- The first of these lines, which comes after `count` other lines, is bad.
+-- The first line in this list is bad. Its number is `count + 1`, because `count` other lines come before it.
 pub record StartsBad (Old : List (List ℕ) → Type 0) (count : ℕ) (lines : List (List ℕ)) (number : ℕ)
     : Type 0 where
   pub bad : List ℕ
@@ -100,7 +100,7 @@ pub record StartsBad (Old : List (List ℕ) → Type 0) (count : ℕ) (lines : L
   pub is_bad : IsBadLine Old bad
   pub number_is : number ≡ count + 1
 
--- The line with this text, which a line feed ends, was read, or is the first bad line.
+-- The text is a line that ended with a line feed. The line was read, or is the first bad line.
 abbrev pub EndedResumed : Bool → ℕ → List ℕ → (Old New : List (List ℕ) → Type 0)
     → Result (Unit {0}) LineFault → Type 0
 EndedResumed may_stop count text Old New result =
@@ -111,7 +111,7 @@ EndedResumed may_stop count text Old New result =
 abbrev pub IsAfterTicks : ℕ → (text rest : List ℕ) → Type 0
 IsAfterTicks count text rest = text ≡ concat (replicate count (codes "tick\n")) ++ rest
 
--- The `tick` lines at the start of a text were counted.
+-- The `tick` lines at the start of some text were counted.
 pub record TicksTaken (count counted : ℕ) (text rest : List ℕ) (Old New : List (List ℕ) → Type 0) : Type 0 where
   pub ticks : ℕ
   pub number : counted ≡ count + ticks
@@ -128,28 +128,28 @@ pub record BytesRun (count counted : ℕ) (partial bytes left rest : List ℕ)
   pub number : counted ≡ count + length lines
   pub adds : Adds Old New lines
 
--- The line that follows these lines of a partial line and bytes is bad.
+-- In the list `all`, a bad line follows these lines.
 pub record HasBadThere (Old : List (List ℕ) → Type 0) (lines all : List (List ℕ)) : Type 0 where
   pub bad : List ℕ
   pub others : List (List ℕ)
   pub parts : all ≡ lines ++ bad ∷ others
   pub is_bad : (before : List (List ℕ)) → Old before → IsBadAfter (before ++ lines) bad
 
--- The line with this number is the first bad line of a partial line and these bytes, whatever follows.
+-- The line with this number is the first bad line in a partial line and the bytes after it, whatever text follows.
 pub record BytesBad (Old : List (List ℕ) → Type 0) (count : ℕ) (partial bytes : List ℕ) (number : ℕ) : Type 0 where
   pub lines : List (List ℕ)
   pub bad : (more : List ℕ) → HasBadThere Old lines (lines_after true partial (bytes ++ more))
   pub number_is : number ≡ count + length lines + 1
   pub good : (before : List (List ℕ)) → Old before → AreGood (before ++ lines)
 
--- The complete lines in these bytes were read, or one of them is the first bad line.
+-- The complete lines in a partial line and the bytes after it were read, or one of these lines is the first bad line.
 abbrev pub BytesResumed : Bool → ℕ → ℕ → (partial bytes left : List ℕ)
     → (Old New : List (List ℕ) → Type 0) → Result (Unit {0}) LineFault → Type 0
 BytesResumed may_stop count counted partial bytes left Old New result =
     Resumes may_stop (BytesRun count counted partial bytes left [] Old New)
     (BytesBad Old count partial bytes) result
 
--- The partial line, if there is one, was read as the last line, or is bad.
+-- At the end of the script, a non-empty partial line was read as the last line, or is bad.
 abbrev pub LastResumed : Bool → ℕ → List ℕ → (Old New : List (List ℕ) → Type 0)
     → Result (Unit {0}) LineFault → Type 0
 LastResumed may_stop count partial Old New result =

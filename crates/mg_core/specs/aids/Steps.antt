@@ -37,7 +37,8 @@ use Rattle.mg_core.specs.Run.{Ran, HasRead, HasBadAfter, lines_for}
 use Rattle.mg_core.specs.aids.Faults.{RanInPart, RanToBadLine, RanAllRead, RanToCutLine}
 use Rattle.mg_core.specs.aids.Faults.{RanToUnrunLine}
 
--- For each represented world, `f` gives the written part and the next world, and the text grew by that part.
+-- For each world that the old state represents, `f` returns the appended text and the next world. The new state
+-- represents that next world.
 abbrev pub TextGrows : CoreState → CoreState → List ℕ → List ℕ → (World → List ℕ × World) → Type 0
 TextGrows old new before text f =
     Leads StandsFor old new (λ w next. (out : List ℕ) × (f w ≡ (out, next))
@@ -87,7 +88,7 @@ EventRan shown event w next n m old new (Ok done) = EventDone shown event w next
 EventRan shown event w next n m old new (Err events.Write) = EventCut shown event w next old new
 EventRan shown event w next n m old new (Err events.NoMemory) = Keeps old new × (next ≡ w)
 
--- If changes are shown, an event's changes were written, or only a proper prefix of their text was.
+-- If changes are shown, the text of an event's changes was written, or only a proper prefix of this text.
 abbrev pub ChangesWritten : Shown → World → World → Option (List ℕ) → Option (List ℕ)
     → Result (Unit {0}) EventFault → Type 0
 ChangesWritten shows.Sent w next old new result = (result ≡ Ok tt) × Keeps old new
@@ -119,7 +120,8 @@ pub record RanCounted (shown : Shown) (w : World) (lines : List (List ℕ)) (las
   pub ran : Ran shown w lines last old new
   pub counted : m ≡ after_sent n ran.sent
 
--- A line was run. On an error, the reason why it was not, or why its text was not written completely.
+-- A line was run and its text was written. An error says why the line was not run, or why its text was not written
+-- completely.
 abbrev pub LineRan : Shown → ℕ → List ℕ → World → World → ℕ → ℕ → Option (List ℕ)
     → Option (List ℕ) → Result (Unit {0}) LineFault → Type 0
 LineRan shown number line w next n m old new (Ok done) =
@@ -130,8 +132,8 @@ LineRan shown number line w next n m old new (Err stops.Write) =
     RanInPart shown w (line ∷ []) next old new
 LineRan shown number line w next n m old new (Err stops.NoMemory) = Keeps old new × (next ≡ w)
 
--- The lines that are complete in these bytes were run, and the next line starts with the bytes in `left`, whatever
--- follows. On an error, the reason why the run stopped.
+-- The complete lines in these bytes were run, and the next line starts with the bytes in `left`, whatever follows. An
+-- error says why the run stopped.
 abbrev pub BytesRan : Shown → ℕ → ℕ → List ℕ → List ℕ → List ℕ → World → World → ℕ → ℕ
     → Option (List ℕ) → Option (List ℕ) → Result (Unit {0}) LineFault → Type 0
 BytesRan shown count counted partial bytes left w next n m old new (Ok done) =
@@ -152,7 +154,7 @@ BytesRan shown count counted partial bytes left w next n m old new (Err stops.No
     (lines : List (List ℕ)) × (line : List ℕ) × (others : List (List ℕ))
     × (lines_after false partial bytes ≡ lines ++ line ∷ others) × Ran shown w lines next old new
 
--- If there is a partial line, it is run and counted as the last line.
+-- A non-empty partial line is run and counted as the last line.
 abbrev pub Finishes : Shown → ℕ → ℕ → List ℕ → World → World → ℕ → ℕ → Option (List ℕ)
     → Option (List ℕ) → Result (Unit {0}) LineFault → Type 0
 Finishes shown count counted [] w next n m old new result =
@@ -169,7 +171,7 @@ pub record AllRanCounted (config : Config) (shown : Shown) (script : List ℕ) (
   pub stands : StandsFor state last
   pub lines : count ≡ length (lines_of true script)
 
--- A whole input was run. On an error, how far it was run.
+-- A whole input was run. If the run failed, the fault determines how far it came.
 abbrev pub AllRan : Config → Shown → (input rest : Option (List ℕ)) → CoreState → ℕ → ℕ
     → (old new : Option (List ℕ)) → Result (Unit {0}) ScriptFault → Type 0
 AllRan config shown input rest state count n old new (Ok done) =

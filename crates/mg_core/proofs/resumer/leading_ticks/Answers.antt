@@ -1,6 +1,6 @@
 use Rattle.std.proofs.Common.{ℕ, refl, drop, arith, ◌*◌, ◌∙◌, ap}
 use Rattle.std.proofs.lemmas.List.{drop-drop}
-use Rattle.mg_core.proofs.ResumeLemmas.{sixteen_more}
+use Rattle.mg_core.proofs.ResumedBytesLemmas.{sixteen_more}
 use Rattle.mg_core.proofs.resumer.leading_ticks.Goals as goal
 
 pub loop-next-init : goal.loop-next-init

@@ -1,7 +1,7 @@
 use Rattle.std.proofs.Common.{[]}
 use Rattle.std.proofs.lemmas.Result.{err_from_is_err_and}
 use Rattle.mg_core.specs.aids.Resuming.{HasFollowed}
-use Rattle.mg_core.proofs.ResumeLemmas.{bad_line_found, follower_stopped, is_followed, is_resumed}
+use Rattle.mg_core.proofs.ResumedScriptLemmas.{bad_line_found, follower_stopped, is_followed, is_resumed}
 use Rattle.mg_core.proofs.ScriptLemmas.{not_bad}
 use Rattle.mg_core.proofs.resuming.resume.Goals as goal
 

@@ -1,5 +1,5 @@
 use Rattle.mg_core.proofs.QuietLemmas.{only_changes_are_reported}
-use Rattle.mg_core.proofs.ReportLemmas.{report_determines_outcome}
+use Rattle.mg_core.proofs.ReportedListenerLemmas.{report_determines_outcome}
 use Rattle.mg_core.proofs.theorems.changes_are_reported.Goals as goal
 
 pub returns : goal.returns

@@ -1,5 +1,5 @@
 use Rattle.std.proofs.Common.{[]}
-use Rattle.mg_core.proofs.ResumeLemmas.{is_followed_until}
+use Rattle.mg_core.proofs.ResumedScriptLemmas.{is_followed_until}
 use Rattle.mg_core.proofs.watching.watch.Goals as goal
 
 pub returns : goal.returns

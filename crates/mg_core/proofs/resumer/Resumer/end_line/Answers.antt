@@ -2,7 +2,8 @@ use Rattle.std.proofs.Common.{◌≡◌, ℕ, ◌+◌, true, List, [], ◌∷◌
 use Rattle.std.proofs.lemmas.Result.{err_from_is_err_and}
 use Rattle.mg_lines.specs.Lines.{lines_after, without_return}
 use Rattle.mg_core.specs.aids.Resuming.{Adds, HasFollowed, IsBadLine, KeepsLines, StartsBad}
-use Rattle.mg_core.proofs.ResumeLemmas.{ended_bad, ended_long, resumes_err, tick_ended, ticks_read}
+use Rattle.mg_core.proofs.ResumeLemmas.{resumes_err, ticks_read}
+use Rattle.mg_core.proofs.ResumedBytesLemmas.{ended_bad, ended_long, tick_ended}
 use Rattle.mg_core.proofs.resumer.Resumer.end_line.Goals as goal
 
 pub returns-then-is_tick-clause-value : goal.returns-then-is_tick-clause-value

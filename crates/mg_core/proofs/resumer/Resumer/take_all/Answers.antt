@@ -1,7 +1,8 @@
 use Rattle.std.proofs.Common.{Ok, Err, take, length-take, arith}
 use Rattle.std.proofs.lemmas.Result.{err_from_is_err_and}
 use Rattle.mg_core.specs.aids.Resuming.{HasFollowed, KeepsLines}
-use Rattle.mg_core.proofs.ResumeLemmas.{good, lines_start, reaches_bytes, reaches_end, reaches_fault, reaches_start}
+use Rattle.mg_core.proofs.ResumeLemmas.{good, lines_start}
+use Rattle.mg_core.proofs.ResumedScriptLemmas.{reaches_bytes, reaches_end, reaches_fault, reaches_start}
 use Rattle.mg_core.proofs.resumer.Resumer.take_all.Goals as goal
 
 pub loop-init : goal.loop-init

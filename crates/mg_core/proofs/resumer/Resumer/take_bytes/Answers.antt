@@ -1,7 +1,8 @@
 use Rattle.std.proofs.Common.{drop, length, ap, refl, arith, length-append, ◌∷◌}
 use Rattle.std.proofs.lemmas.Result.{err_from_is_err_and}
 use Rattle.mg_core.specs.aids.Resuming.{HasFollowed, KeepsLines}
-use Rattle.mg_core.proofs.ResumeLemmas.{bytes_feed, bytes_last, bytes_start, bytes_stop, bytes_ticks, cut_at_feed, good, no_feed}
+use Rattle.mg_core.proofs.ResumeLemmas.{good}
+use Rattle.mg_core.proofs.ResumedBytesLemmas.{bytes_feed, bytes_last, bytes_start, bytes_stop, bytes_ticks, cut_at_feed, no_feed}
 use Rattle.mg_core.proofs.resumer.Resumer.take_bytes.Goals as goal
 
 pub loop-end-init : goal.loop-end-init

@@ -1,7 +1,7 @@
 use Rattle.std.proofs.Common.{◌∙◌, Ok, Err, sym}
 use Rattle.std.proofs.lemmas.Result.{err_from_is_err_and}
 use Rattle.mg_core.specs.aids.Resuming.{HasFollowed, KeepsLines}
-use Rattle.mg_core.proofs.ResumeLemmas.{last_line_resumed, no_last_line}
+use Rattle.mg_core.proofs.ResumedScriptLemmas.{last_line_resumed, no_last_line}
 use Rattle.mg_core.proofs.resumer.Resumer.take_last.Goals as goal
 
 pub returns-then-is_empty : goal.returns-then-is_empty

@@ -1,7 +1,8 @@
 use Rattle.std.proofs.Common.{◌≡◌, ◌∙◌, List, take, length-take, arith, sym}
 use Rattle.mg_core.specs.Note.{Note}
 use Rattle.mg_core.specs.aids.Resuming.{HasFollowed, KeepsLines, KeepsUp}
-use Rattle.mg_core.proofs.ResumeLemmas.{advances, followed_to_done, followed_to_end, lines_start, not_err, ticks_run, waits_on, waits_start}
+use Rattle.mg_core.proofs.ResumeLemmas.{lines_start}
+use Rattle.mg_core.proofs.ResumedScriptLemmas.{advances, followed_to_done, followed_to_end, not_err, ticks_run, waits_on, waits_start}
 use Rattle.mg_core.proofs.resumer.Resumer.take_until_done.Goals as goal
 
 pub loop-init : goal.loop-init

@@ -2,7 +2,7 @@ use Rattle.std.proofs.Common.{◌*◌, ◌≤◌, []}
 use Rattle.mg_engine.specs.declared.config.Config.{Config}
 use Rattle.mg_core.specs.Follow.{HasRun}
 use Rattle.mg_core.specs.aids.Resuming.{HasFollowed, KeepsLines}
-use Rattle.mg_core.proofs.ResumeLemmas.{Waits}
+use Rattle.mg_core.proofs.ResumedScriptLemmas.{Waits}
 use Rattle.mg_core.proofs.resumer.Resumer.take_until_done.Given as goal
 
 abbrev pub invariant-loop : goal.invariant-loop

@@ -10,7 +10,7 @@ use Rattle.mg_arguments.specs.Read.{all_read}
 abbrev pub all_named : List (List ℕ) → Result (List (List ℕ)) ControllerFault
 all_named texts = all_read address_of Unreadable texts
 
--- The addresses in `read`, followed by the named addresses.
+-- The addresses in `read`, followed by those in `named`. If `named` is a fault, the result is this fault.
 abbrev pub then_named : List (List ℕ) → Result (List (List ℕ)) ControllerFault → Result (List (List ℕ)) ControllerFault
 then_named read (Ok named) = Ok (read ++ named)
 then_named read (Err fault) = Err fault

@@ -48,7 +48,7 @@ pub ends : {A B : Type 0} (kinds : Kinds) (read : Result A Kinds) (next : A → 
     (read >>= next) ≡ Err kinds
 ends {A = A} kinds read next is = ap (λ (r : Result A Kinds). r >>= next) is
 
--- ## Which intervals
+-- ## The query
 
 abbrev with_until : (listener talker : Option Asked) → (from until : Option Date) → Result AskedQuery Kinds
 with_until listener talker from until =
@@ -128,7 +128,7 @@ refuses_until rows listener talker from is heard begins none =
     at_from rows listener talker from is heard begins ∙
     ends (ValueValidation ∷ []) (value_by date_of_text (codes "to") rows) (with_until listener talker from) none
 
--- ## How it is printed
+-- ## The format
 
 abbrev formed : Bool → Bool → Result (Option Format) Kinds → Result Format Kinds
 formed page reshapes named =
@@ -163,7 +163,7 @@ pub refuses_page : (rows : List Row) → is_set (codes "report") rows ≡ true �
     form_in rows ≡ Err (ValueValidation ∷ [])
 refuses_page rows page other = on_page rows true page other
 
--- ## How answers are printed
+-- ## The style of answers
 
 abbrev with_names : Format → (zone names : Option Text) → Result Printing Kinds
 with_names format zone names =
@@ -211,7 +211,7 @@ refuses_names rows format zone fault is placed none =
     ends (ValueValidation ∷ []) (valid (named_by file_path (codes "names") rows)) (with_names format zone)
     (ap (λ (r : Result (Option Text) FilePathFault). valid r) (sym none))
 
--- ## What is asked
+-- ## The question
 
 abbrev with_file : AskedQuery → Option Date → Printing → Option Text → Result HeardRequest Kinds
 with_file query time printing file = Ok (record {
@@ -283,7 +283,7 @@ refuses_file rows query time printing fault is timed formed none =
     ends (ValueValidation ∷ []) (valid (named_by file_path (codes "file") rows)) (with_file query time printing)
     (ap (λ (r : Result (Option Text) FilePathFault). valid r) (sym none))
 
--- ## What a request asks for
+-- ## The run for a question
 
 asks : (f : HeardRequest → Result Invocation Kinds) (rows : List Row) (request : HeardRequest)
     (answer : Result Invocation Kinds) → request_in rows ≡ Ok request → f request ≡ answer →

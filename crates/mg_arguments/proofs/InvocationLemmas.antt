@@ -1,4 +1,4 @@
--- The consequences of words in which the command line finds a fault, or none.
+-- The run that the arguments request, depending on whether the command line finds a fault in them.
 use Rattle.std.proofs.Common.{◌≡◌, ◌∙◌, ◌&&◌, ℕ, Bool, true, false, not, List, [], ◌∷◌, Option, Some, None, is_some, inl, inr, refl, sym, ap, ap₂, true≢false, Result, Ok, Err, codes}
 use Rattle.std.specs.Prelude.{Box, IfErr, IsErrAnd, option_and_then, option_map}
 use Rattle.std.specs.List.{list_any}
@@ -192,7 +192,7 @@ refuses_service name rows address control named commanded refused =
     at_control name rows address control named commanded ∙
     ap (λ (r : Result Service Kinds). r >>= with_service name rows address control) refused
 
--- The address to bind sockets to, after its text was read.
+-- The value of a bind address that was read: the address, or the fault.
 abbrev some_bound : Result (List ℕ) BindAddressFault → Result (Option (List ℕ)) BindAddressFault
 some_bound read = read >>= (λ address. Ok (Some address))
 
@@ -211,7 +211,7 @@ bound_fails rows text fault named is = ap some_bound is ∙ ap bound_by named
 pub unbound : (rows : List Row) → None ≡ first_of (codes "bind-address") rows → Ok None ≡ named_by bind_address (codes "bind-address") rows
 unbound rows named = ap bound_by named
 
--- The path of a file, after its text was read.
+-- The value of a path that was read: the path, or the fault.
 abbrev some_path : Result (List ℕ) FilePathFault → Result (Option (List ℕ)) FilePathFault
 some_path read = read >>= (λ path. Ok (Some path))
 
@@ -229,7 +229,7 @@ path_fails name rows text fault named is = ap some_path is ∙ ap written_by nam
 pub unwritten : (name : Text) (rows : List Row) → None ≡ first_of name rows → Ok None ≡ named_by file_path name rows
 unwritten name rows named = ap written_by named
 
--- The check of a gateway from an address, if a gateway is named.
+-- The check of `gateway` from the address `source`. Without a gateway, the arguments are invalid.
 abbrev check_of : Result (List ℕ) AddressFault → Option Peer → Result Invocation Kinds
 check_of source gateway = valid source >>= (λ address.
     option_map_or (λ peer. Ok (Check peer address)) gateway (Err (ValueValidation ∷ [])))
@@ -252,18 +252,18 @@ pub refuses_source : (rows : List Row) (fault : AddressFault) → Err fault ≡ 
     check_in rows ≡ Err (ValueValidation ∷ [])
 refuses_source rows fault from = sym (ap (λ (source : Result (List ℕ) AddressFault). check_of source (named_gateway rows)) from)
 
--- A true statement is also true if the result is an error.
+-- If `X` is true, it is also true in case of an error.
 pub at_error : {T E X : Type 0} (r : Result T E) → X → IfErr r (λ e. X)
 at_error (Ok value) x = tt
 at_error (Err e) x = x
 
--- If the requested run is refused with a kind of error, the request is refused with this kind.
+-- If the run of the subcommand is refused with a kind of error, the whole request is refused with this kind.
 pub refuses : (requested : Result Invocation Kinds) (name : Text) (rows : List Row) (kind : ErrorKind) →
     requested ≡ run_in name rows → run_in name rows ≡ Err (ValueValidation ∷ []) → kind ≡ ValueValidation →
     IsRefused requested kind
 refuses requested name rows kind asks refused is = rw (asks ∙ refused, is) (inr (inl refl))
 
--- If an error that reports lack of memory is passed on, the request is refused with its kind.
+-- If an error reports lack of memory, the request is refused with the error's kind.
 pub memory_passed_on : {T : Type 0} (r : Result T Error) (requested : Result Invocation Kinds) →
     IsErrAnd r (λ e. kind_of e ≡ OutOfMemory)
     → IfErr r (λ e. IsRefused requested (kind_of e))

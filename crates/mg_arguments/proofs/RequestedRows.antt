@@ -276,7 +276,7 @@ greatest_address : requested (at_address (codes "223.255.255.255")) ≡
 unfolding requested command_line options config_at address_of clap_on_literals
 greatest_address = refl
 
--- Control messages have an address of their own.
+-- Control messages can have an address of their own.
 two_addresses : requested (codes "live" ∷ codes "--control-address=10.0.0.1" ∷ codes "--address" ∷ codes "192.0.2.1" ∷ [])
     ≡ Ok (Live (record standard { address = 192 ∷ 0 ∷ 2 ∷ 1 ∷ []; control_address = 10 ∷ 0 ∷ 0 ∷ 1 ∷ [] })
     (with_given (record none_given { address = true; control_address = true })) all_drawn 5)

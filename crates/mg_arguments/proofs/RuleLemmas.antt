@@ -1,4 +1,4 @@
--- The rules that have been read and those that remain to be read, and how options affect rules.
+-- The rules that have been read and those that remain to be read, and the run for the rules on the command line.
 use Rattle.std.proofs.Common.{◌≡◌, ◌∙◌, ◌+◌, ◌<◌, ℕ, Bool, true, false, List, [], ◌∷◌, ◌++◌, Option, Some, Result, Ok, Err, ap, append_assoc, codes, drop, get_or, length, map, refl, sym}
 use Rattle.std.specs.Prelude.{if◌then◌else◌}
 use Rattle.std.proofs.lemmas.List.{at_drop_more}
@@ -22,7 +22,7 @@ use Rattle.mg_arguments.proofs.HeardOptionLemmas.{ends, goes_on}
 abbrev pub all_stated : (has_names : Bool) → List (List ℕ) → Result (List AskedRule) RuleFault
 all_stated has_names texts = all_read (rule_by has_names) Unreadable texts
 
--- The rules in `read`, followed by the stated rules.
+-- The rules in `read`, followed by those in `stated`. If `stated` is a fault, the result is this fault.
 abbrev pub then_stated : List AskedRule → Result (List AskedRule) RuleFault → Result (List AskedRule) RuleFault
 then_stated read (Ok stated) = Ok (read ++ stated)
 then_stated read (Err fault) = Err fault
@@ -49,7 +49,7 @@ next_read has_names now texts i d rule read lt is =
     at_drop_more (λ rest. then_stated read (all_stated has_names (map now rest))) texts i d lt ∙
     one_read has_names read (now (get_or texts i d)) (map now (drop (i + 1) texts)) rule is
 
--- ## What the options say
+-- ## The run for the rules on the command line
 
 abbrev answer : Bool → List AskedRule → Printing → Option Text → Result Invocation Kinds
 answer part rules printing file = if part then Err (ValueValidation ∷ []) else Ok (Watch (record {

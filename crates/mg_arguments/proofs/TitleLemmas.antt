@@ -1,4 +1,4 @@
--- Joining texts one after another.
+-- Appending eleven strings one by one gives the same text as joining them all.
 use Rattle.std.proofs.Common.{◌≡◌, ℕ, List, [], ◌++◌, append_assoc}
 use Rattle.std.proofs.lemmas.List.{append-nil}
 

@@ -1,4 +1,4 @@
--- The addresses of a gateway, and their texts.
+-- The addresses of a gateway, and how they are written.
 use Rattle.std.specs.Prelude.{ℕ, Bool, nat_le, List, [], ◌∷◌, slice_index, ok_or, Result, Ok, Err}
 use Rattle.std.specs.Prelude.{if◌then◌else◌}
 use Rattle.std.specs.Str.{bytes_eq}

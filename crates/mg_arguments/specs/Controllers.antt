@@ -1,4 +1,4 @@
--- The addresses of controllers, and their texts.
+-- The addresses of controllers, and how they are written.
 use Rattle.std.specs.Prelude.{ℕ, nat_lt, List, length, Result, Err, if◌then◌else◌}
 use Rattle.mg_words.specs.Address.{address_of}
 use Rattle.mg_arguments.specs.Read.{all_read}

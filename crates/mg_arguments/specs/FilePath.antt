@@ -3,7 +3,8 @@ use Rattle.std.specs.Prelude.{ℕ, ◌==◌, nat_le, List, length, Result, Ok, E
 use Rattle.mg_arguments.specs.declared.file_path_fault.FilePathFault.{FilePathFault}
 use Rattle.mg_arguments.specs.declared.file_path_fault.FilePathFault.TheVariants.{Empty, TooLong}
 
--- The text as a path. Temporary files have longer names, so the limit is below the system's.
+-- `text` as a path, or the reason why it can't be a path. Temporary files have longer names, so the limit is below the
+-- system's.
 abbrev pub file_path : List ℕ → Result (List ℕ) FilePathFault
 file_path text =
     if length text == 0 then Err Empty

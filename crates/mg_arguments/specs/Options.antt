@@ -198,9 +198,9 @@ given_in found = record {
   timestamp = is_given (codes "timestamp") found;
 }
 
--- ## What the arguments request
+-- ## The run that the arguments request
 
--- The value of a string. A string without a value makes the arguments invalid.
+-- The value that was read. If no value was read, the arguments are invalid.
 abbrev pub valid : {A E : Type 0} → Result A E → Result A Kinds
 valid (Ok value) = Ok value
 valid (Err fault) = Err (ValueValidation ∷ [])
@@ -236,8 +236,8 @@ draws_of found = record {
   timestamp = is_none (number_given 4294967296 (codes "timestamp") found);
 }
 
--- The run that a subcommand requests. In `Live`, the number is the maximum lateness of a tick, in ticks: a later tick's
--- packets are not sent.
+-- The run that a subcommand requests. In `Live`, the number is the maximum lateness of a tick, in ticks: the packets of
+-- a later tick are not sent.
 abbrev pub run_of : Text → Config → Service → List Row → Invocation
 run_of name config service found =
     if bytes_eq name (codes "serve") then Serve config service
@@ -253,7 +253,7 @@ check_in found = do
   option_map_or (λ gateway. Ok (Check gateway source))
       (option_and_then peer_of (first_of (codes "gateway") found)) (Err (ValueValidation ∷ []))
 
--- The run of a gateway that a subcommand with these options requests. A gateway without an address for control messages
+-- The run that a gateway's subcommand requests with these options. Without an address for control messages, the gateway
 -- uses its address for media.
 abbrev pub gateway_in : Text → List Row → Result Invocation Kinds
 gateway_in name found = do
@@ -264,7 +264,8 @@ gateway_in name found = do
 
 -- ## Who could hear whom
 
--- The value of an option's text, if `read` gives the text a value. `None` if the option isn't given.
+-- The value that `read` gives the option's text, or `None` if the option isn't given. If the text has no value, the
+-- arguments are invalid.
 abbrev pub value_by : {A : Type 0} → (Text → Option A) → Text → List Row → Result (Option A) Kinds
 value_by read name found = named_by (λ text. ok_or (read text) (ValueValidation ∷ [])) name found
 
@@ -337,7 +338,8 @@ abbrev pub number_named : Option Asked → Option ℕ
 number_named (Some (Key (Termination n))) = Some n
 number_named other = None
 
--- The question when a talker was audible. The talker must be given by number, and no single time can be asked about.
+-- The run that answers when a talker was audible. The talker must be given by number, and the question can't be about a
+-- single time.
 abbrev pub audible_of : HeardRequest → Result Invocation Kinds
 audible_of request =
     if is_some request.at then Err (ValueValidation ∷ [])
@@ -356,7 +358,7 @@ abbrev pub rules_in : List Row → Result (List AskedRule) RuleFault
 rules_in found =
     rules_of (is_given (codes "names") found) (unwrap_or (all_of (codes "never") found) [])
 
--- The rules that a script must keep.
+-- The run that checks whether a script keeps the rules on the command line.
 abbrev pub watch_in : List Row → Result Invocation Kinds
 watch_in found = do
   rules ← valid (rules_in found)
@@ -368,7 +370,7 @@ watch_in found = do
     rules = rules;
   }))
 
--- The question that the options ask about a script, or the rules that the script must keep.
+-- The run for the question or for the rules on the command line.
 abbrev pub script_in : List Row → Result Invocation Kinds
 script_in found =
     if is_given (codes "never") found then watch_in found
@@ -379,7 +381,7 @@ script_in found =
 abbrev pub verify_in : List Row → Result Invocation Kinds
 verify_in found = valid (named_by file_path (codes "file") found) >>= (λ file. Ok (Verify file))
 
--- The run that a subcommand with these options and arguments requests.
+-- The run that a subcommand requests with these options and arguments.
 abbrev pub run_in : Text → List Row → Result Invocation Kinds
 run_in name found =
     if bytes_eq name (codes "check") then check_in found

@@ -1,8 +1,8 @@
--- The values of texts.
+-- The values of a list of strings.
 use Rattle.std.specs.Prelude.{ℕ, List, [], ◌∷◌, ok_or, Option, Result, Ok}
 use Rattle.mg_words.specs.ResultSteps.{◌>>=◌}
 
--- The value of each text, in order, or a fault if a text has no value.
+-- The value of each string, in order, or a fault if a string has no value.
 abbrev pub all_read : {A E : Type 0} → (List ℕ → Option A) → E → List (List ℕ) → Result (List A) E
 all_read read fault [] = Ok []
 all_read read fault (text ∷ texts) = do

@@ -5,7 +5,7 @@ use mg_core::Config;
 use std::io;
 use std::random::RandomSource;
 
-/// A choice of the initial numbers for RTP packets that are drawn at random, because no option sets them.
+/// Says which initial numbers of RTP packets are drawn at random, because no option sets them.
 #[derive(Clone, Copy, Debug, PartialEq, Eq)]
 pub struct Draws {
     pub ssrc: bool,

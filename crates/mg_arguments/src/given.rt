@@ -19,8 +19,8 @@ pub struct Given {
 }
 
 impl Given {
-    /// Returns the name of the first given option whose value differs between two configurations, or `None` if all
-    /// agree.
+    /// Returns the name of the first given option whose value differs between two configurations, or `None` if no value
+    /// differs.
     pub fn first_difference(&self, wanted: &Config, actual: &Config) -> Option<&'static str>
         ensures value { IfNone result (Agrees self.now wanted.now actual.now) }
     {

@@ -57,7 +57,7 @@ const NO_PERIOD: &str = "'--at' can't be used with '--from' or '--to'";
 /// The error message for an option that a page doesn't allow.
 const NO_FORM: &str = "'--report' can't be used with '--format', '--at' or '--audible'";
 
-/// Creates an option that takes a text.
+/// Creates an option whose value is any string.
 fn option<'a>(alloc: Global, name: &'a str, value: &'a str) -> Arg<'a>
     ensures rule { rule_of result ≡ text_rule name.now }
 {
@@ -86,7 +86,7 @@ pub(crate) fn script_argument<'a>(alloc: Global) -> Arg<'a>
         .help("Journal or recording [default: standard input]")
 }
 
-/// Adds a script, and the options that select terminations and a time.
+/// Adds the argument that names a script, and the options that select terminations and a time.
 fn with_question<'a>(alloc: Global, command: Command<'a>) -> Result<Command<'a>, Error>
     ensures app { IfOk result (λ with. app_of with ≡ fold with_rule (app_of command.entry) (take 4 heard_options)) }
     ensures memory { IfErr result (λ error. kind_of error ≡ ErrorKind.OutOfMemory) }
@@ -103,8 +103,8 @@ fn with_question<'a>(alloc: Global, command: Command<'a>) -> Result<Command<'a>,
     Ok(command)
 }
 
-/// Adds a script, the options that select terminations, a time, a period or audible intervals, and the option for
-/// rules.
+/// Adds the argument that names a script, and the option for rules. Also adds the options that select terminations, a
+/// time, a period or audible intervals.
 fn with_period<'a>(alloc: Global, command: Command<'a>) -> Result<Command<'a>, Error>
     ensures app { IfOk result (λ with. app_of with ≡ fold with_rule (app_of command.entry) (take 8 heard_options)) }
     ensures memory { IfErr result (λ error. kind_of error ≡ ErrorKind.OutOfMemory) }
@@ -326,7 +326,7 @@ fn heard_of(request: HeardRequest) -> Result<Invocation, &'static str>
     Ok(Invocation::Heard(request))
 }
 
-/// Returns the run that answers who could hear whom, as the options ask, or the error message.
+/// Returns the run for the options' question who could hear whom, or the error message.
 fn heard_in(matches: &ArgMatches<'_>) -> Result<Invocation, &'static str>
     ensures run { IfOk result (λ run. request_for heard_of (rows_of (found_of matches.now)) ≡ Ok run) }
     ensures refused { IfErr result (λ _. request_for heard_of (rows_of (found_of matches.now)) ≡ Err (ValueValidation ∷ [])) }
@@ -348,8 +348,8 @@ fn number_named(asked: &Option<Asked>) -> Option<u32>
     }
 }
 
-/// Returns the run that answers when the talker was audible, or the error message if the talker has no number or a time
-/// is asked about.
+/// Returns the run that answers when the talker was audible. Returns the error message if the talker isn't given by
+/// number, or if the question is about a single time.
 fn audible_of(request: HeardRequest) -> Result<Invocation, &'static str>
     ensures run { IfOk result (λ run. audible_of request ≡ Ok run) }
     ensures refused { IfErr result (λ _. audible_of request ≡ Err (ValueValidation ∷ [])) }
@@ -366,7 +366,7 @@ fn audible_of(request: HeardRequest) -> Result<Invocation, &'static str>
     }))
 }
 
-/// Returns the run that answers when a talker was audible, as the options ask, or the error message.
+/// Returns the run for the options' question when a talker was audible, or the error message.
 fn audible_in(matches: &ArgMatches<'_>) -> Result<Invocation, &'static str>
     ensures run { IfOk result (λ run. request_for audible_of (rows_of (found_of matches.now)) ≡ Ok run) }
     ensures refused { IfErr result (λ _. request_for audible_of (rows_of (found_of matches.now)) ≡ Err (ValueValidation ∷ [])) }

@@ -24,7 +24,7 @@ pub enum Invocation {
     Heard(HeardRequest),
     /// Report when a talker was audible while a script ran.
     Audible(AudibleRequest),
-    /// Report whether the seals in a file, or in the input, are right.
+    /// Report whether the seals in a file, or in the input, are valid.
     Verify(Option<FilePath>),
     /// Copy the input to the output, and add seals.
     Seal,

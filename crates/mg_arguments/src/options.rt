@@ -229,7 +229,7 @@ fn command<'a>(alloc: Global) -> Result<Command<'a>, Error>
     Ok(command)
 }
 
-/// Returns the address given by an option, or `otherwise` if the option was not given.
+/// Returns the address that an option names, or `otherwise` if the option isn't given.
 fn address_of(
     name: &str,
     otherwise: [u8; 4],
@@ -277,7 +277,7 @@ fn draws_of(matches: &ArgMatches<'_>) -> Draws
     }
 }
 
-/// Returns how late a tick may be, in ticks of 20 ms, and still have its packets sent.
+/// Returns the maximum lateness, in ticks of 20 ms, at which a tick's packets are still sent.
 fn late_of(matches: &ArgMatches<'_>) -> u16
     ensures value { result ≡ number_or 65536 (codes "late") 5 (rows_of (found_of matches.now)) }
 {
@@ -336,7 +336,7 @@ fn bind_address_of(matches: &ArgMatches<'_>) -> Result<Option<[u8; 4]>, BindAddr
     }
 }
 
-/// Returns the file that an option or an argument names, or `None` if it isn't given.
+/// Returns the file that an option or an argument names, or `None` if the option or the argument isn't given.
 pub(crate) fn file_of(
     name: &str,
     matches: &ArgMatches<'_>,
@@ -495,7 +495,7 @@ fn check_in(matches: &ArgMatches<'_>) -> Result<Invocation, &'static str>
     }
 }
 
-/// Returns the run of a gateway that a subcommand with these options requests, or the error message.
+/// Returns the run that a gateway's subcommand requests with these options, or the error message.
 fn gateway_in(name: &str, matches: &ArgMatches<'_>) -> Result<Invocation, &'static str>
     ensures run { IfOk result (λ run. gateway_in name.now (rows_of (found_of matches.now)) ≡ Ok run) }
     ensures refused { IfErr result (λ _. gateway_in name.now (rows_of (found_of matches.now)) ≡
@@ -514,7 +514,7 @@ fn gateway_in(name: &str, matches: &ArgMatches<'_>) -> Result<Invocation, &'stat
     Ok(run_of(name, config, service, matches))
 }
 
-/// Returns the run that a subcommand with these options and arguments requests, or the error message.
+/// Returns the run that a subcommand requests with these options and arguments, or the error message.
 fn run_in(name: &str, matches: &ArgMatches<'_>) -> Result<Invocation, &'static str>
     ensures run { IfOk result (λ run. run_in name.now (rows_of (found_of matches.now)) ≡ Ok run) }
     ensures refused { IfErr result (λ _. run_in name.now (rows_of (found_of matches.now)) ≡

@@ -1,4 +1,4 @@
--- The two gateways agree outside the talker.
+-- The two gateways agree, except for the talker's termination.
 use Rattle.std.proofs.Common.{◌≡◌, ℕ, eqb, ◌||◌, eq-eqb, eqb-true, Bool, true, false, List, [], ◌∷◌, Option, Some, None, refl, sym, ap, subst}
 use Rattle.std.specs.Option.{option_map_or}
 use Rattle.std.proofs.lemmas.Bool.{false≢true}
@@ -17,7 +17,7 @@ use Rattle.mg_heard.specs.declared.open_flow.OpenFlow.{OpenFlow}
 use Rattle.mg_audible.specs.Audible.{RunsWithout}
 use Rattle.mg_audible.specs.Without.{StepUnless, StepWithout, is_port_of}
 
--- The list of the talker alone.
+-- The list with only the talker.
 abbrev pub alone : ℕ → List ℕ
 alone talker = talker ∷ []
 
@@ -34,14 +34,14 @@ among : (w : Gateway) (talker port : ℕ) → is_port_of w talker port ≡ true 
 among w talker port h = among_at w talker port (at_port w.rooms port) refl h
 
 module _ (unheard : UnheardChangesNothing) (talker : ℕ) where
-  -- If an event arrives at both gateways, they still agree outside the talker.
+  -- If an event arrives at both gateways, the gateways still agree outside the talker.
   both_agree : (a b x y : World) (event : Event) (s t : List Sent) → AgreeOutside (alone talker) a b →
       Step a event s x → Step b event t y → AgreeOutside (alone talker) x y
   both_agree a b x y event s t h step also = (unheard (alone talker) 0 a b x y (Both event ∷ []) s t h
       (λ sent next happens. tt) (one_event a x event s step) (one_event b y event t also)).0
 
-  -- If an RTP datagram arrives at both gateways, or at the first alone because it is speech of the talker, they still
-  -- agree outside the talker.
+  -- An RTP datagram arrives at both gateways, or only at the first one if it is speech of the talker. Then the gateways
+  -- still agree outside the talker.
   media_agree : (a b x y : World) (port : ℕ) (source : Peer) (bytes : List ℕ) (s : List Sent) (is_speech : Bool) →
       is_port_of a.gateway talker port ≡ is_speech → AgreeOutside (alone talker) a b →
       Step a (Media port source bytes) s x → StepUnless is_speech b (Media port source bytes) y →

@@ -14,11 +14,11 @@ use Rattle.mg_heard.specs.aids.Opening.{IsRising, beginning_at, key_of}
 use Rattle.mg_heard.proofs.Members.{all_from_pairs, pairs_filter, pairs_from_all, pairs_map}
 use Rattle.mg_audible.specs.Audible.{audible_flows, is_sent_other}
 
--- The flows from the talker to the terminations in `rs` that are sent other bytes.
+-- The flows from the talker to the terminations in `rs` to which the two worlds send different bytes.
 abbrev pub flows_among : ℕ → World → World → List Record → List OpenFlow
 flows_among talker v w rs = map (λ r. open_flow v.gateway r.number talker) (filter (is_sent_other v w) rs)
 
--- One more termination adds its flow if it is sent other bytes.
+-- One more termination adds its flow if the two worlds send it different bytes.
 among_more : (talker : ℕ) (v w : World) (rs : List Record) (i : ℕ) (r : Record) (b : Bool) → i < length rs →
     get_or rs i r ≡ r → is_sent_other v w r ≡ b → flows_among talker v w (take (i + 1) rs)
     ≡ flows_among talker v w (take i rs) ++ cond b (open_flow v.gateway r.number talker ∷ []) []
@@ -40,7 +40,8 @@ pub flows_same : (talker : ℕ) (v w : World) (rs : List Record) (i : ℕ) (r : 
 flows_same talker v w rs i r flows there is e h =
     h ∙ sym (among_more talker v w rs i r false there is e ∙ append-nil (flows_among talker v w (take i rs)))
 
--- The next flow has room, because there are at most as many flows as terminations so far.
+-- After one more flow is stored, the stored flows are those of the first `i + 1` terminations. There is room for the
+-- flow, because there are at most as many flows as terminations.
 pub flows_more : {E : Type 0} (talker : ℕ) (v w : World) (rs : List Record) (i : ℕ) (r : Record)
     (x : OpenFlow) (flows new : List OpenFlow) (pushed : Result (Unit {0}) E) → i < length rs →
     length rs ≤ termination_limit → get_or rs i r ≡ r → is_sent_other v w r ≡ true →
@@ -68,7 +69,7 @@ flows_rising talker v w now h =
     (λ r later less. omega arith)
     (pairs_filter before (is_sent_other v w) rs (pairs_from_all before rs h.terminations.rising))))
 
--- There are at most as many flows as terminations.
+-- After one more flow is stored, there are still at most as many flows as terminations.
 pub few_more : {E : Type 0} (rs : List Record) (i : ℕ) (x : OpenFlow) (flows new : List OpenFlow)
     (pushed : Result (Unit {0}) E) → i < length rs → length rs ≤ termination_limit → length flows ≤ i →
     OnOk pushed (new ≡ flows ++ x ∷ []) → OnErr pushed (length flows ≡ termination_limit) → length new ≤ i + 1

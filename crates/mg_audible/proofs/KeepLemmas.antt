@@ -71,7 +71,7 @@ pub told_whole : (end : Option Moment) (before : List Entry) (xs : List OpenInte
     before ++ map (entry_until end) (take i xs) ≡ before ++ map (entry_until end) xs
 told_whole end before xs i all = ap (λ (l : List OpenInterval). before ++ map (entry_until end) l) (take_all i xs all)
 
--- ## The start
+-- ## The start of a script
 
 pub keeps_start : (config : Config) (talker : ℕ) (whole without : CoreState) (tick : ℕ) (stored : List OpenInterval)
     (Told : List Entry → Type 0) → StandForBoth whole without (start_of config) (start_of config) → tick ≡ 0 →
@@ -222,7 +222,7 @@ ticks_more notes i =
     last zero = refl
     last (suc i) = ap (λ (l : List Note). Happened Tick ∷ l) (last i)
 
--- ## The end
+-- ## The end of a script
 
 tells_all : (config : Config) (talker : ℕ) (notes : List Note) (whole without : CoreState) (tick bound : ℕ)
     (stored : List OpenInterval) (Told ToldNext : List Entry → Type 0) → OneOutcome → DifferencesAreSpeech → IsStart config →
@@ -273,7 +273,7 @@ tells_all_on config talker notes whole without clock stored Told ToldNext (Ok do
     h.keeps (λ before t. (last before t.0, timed_until older bound None stored before tt h.begun t.1))
 tells_all_on config talker notes whole without clock stored Told ToldNext (Err error) one law start h last = tt
 
--- ## With dates and gaps
+-- ## The state with dates and gaps
 
 audible_weaker : (config : Config) (talker : ℕ) (notes : List Note) (whole without : CoreState) (tick : ℕ)
     (stored : List OpenInterval) (Told Next : List Entry → Type 0) → ((xs : List Entry) → Told xs → Next xs) →
@@ -295,7 +295,7 @@ audible_weaker config talker notes whole without tick stored Told Next more h = 
   };
 }
 
--- `KeepsTimed` follows from the state for the notes in reverse order.
+-- `KeepsTimed` holds if its parts hold for `older`, which consists of the notes in reverse order.
 timed_back : (config : Config) (talker : ℕ) (notes older : List Note) (whole without : CoreState) (clock : Clock)
     (stored : List OpenInterval) (Told : List Entry → Type 0) → reverse notes ≡ older → IsClock older clock →
     AreBegun older (tick_count older) stored →

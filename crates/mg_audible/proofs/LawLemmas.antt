@@ -36,7 +36,7 @@ use Rattle.mg_audible.specs.Laws.{DifferencesAreSpeech, Differs, TellsDifference
 use Rattle.mg_audible.proofs.AgreeLemmas.{alone, same_next}
 use Rattle.mg_audible.proofs.RunLemmas.{first_run, runs_once, split}
 
--- ## Who hears nothing of the talker
+-- ## Listeners that hear nothing of the talker
 
 or_none : (a b : Bool) → (a || b) ≡ false → (a ≡ false) × (b ≡ false)
 or_none true b e = absurd (true≢false e)
@@ -78,7 +78,7 @@ none_at w talker r sound among e =
     (sym (one_port w.rooms sound r s among (at_from_in s w.rooms.terminations i) same))
     (hears_none w talker r.number e))
 
--- ## What is sent to them
+-- ## Packets that are sent to these listeners
 
 first_bytes : List Datagram → List ℕ
 first_bytes [] = []
@@ -169,7 +169,7 @@ at_middle : (xs ys : List (List OpenFlow)) (y : List OpenFlow) → get_or (xs ++
 at_middle [] ys y = refl
 at_middle (x ∷ xs) ys y = at_middle xs ys y
 
--- The moment of the tick after the events in `past`.
+-- The worlds and the moment of the tick after the events in `past`.
 record AtTick (talker : ℕ) (start : World) (past : List Event) (moments : List (List OpenFlow)) : Type 0 where
   v : World
   w : World
@@ -196,7 +196,7 @@ at_tick talker start last other past later moments runs =
           ∙ at_middle s.before s.after flows;
     }
 
--- If an interval contains the tick, the bytes of the tick differ.
+-- If an interval contains the tick after `past`, the bytes of this tick differ.
 told_differs : (config : Config) (talker listener : ℕ) (past : List Event) (moments : List (List OpenFlow)) →
     AtTick talker (start_of config) past moments →
     IsToldAt (count_by is_tick past) talker listener (intervals (reverse moments)) →
@@ -213,7 +213,7 @@ told_differs config talker listener past moments t told =
     let (index, within, is) = at_from_in r ts one in
     (t.before, t.v, t.w, t.runs, (index, r, within, is, (sym (ap (λ (x : OpenFlow). x.listener) k) ∙ pair.1, sent)))
 
--- If the bytes of a tick differ, an interval contains the tick.
+-- If the bytes of the tick after `past` differ, an interval contains this tick.
 differs_told : OneOutcome → (config : Config) (talker listener : ℕ) (past : List Event)
     (moments : List (List OpenFlow)) → AtTick talker (start_of config) past moments →
     Differs config talker listener past →

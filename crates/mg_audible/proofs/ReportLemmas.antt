@@ -45,7 +45,7 @@ reported_all config talker has_rtp input rest P Q more (state, h) = (
   },
 )
 
--- ## Speech
+-- ## RTP datagrams
 
 any_more : (b rest : Bool) (n m : ℕ) → m ≡ cond b 1 0 + n → rest ≡ ltb 0 n → (b || rest) ≡ ltb 0 m
 any_more true rest n m e h = sym (lt-ltb 0 m (omega (arith, e)))

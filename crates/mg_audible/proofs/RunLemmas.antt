@@ -1,4 +1,4 @@
--- Two gateways that run events, the second without the talker's speech.
+-- Two gateways run events, the second one without the talker's speech.
 use Rattle.std.proofs.Common.{◌≡◌, ℕ, ◌+◌, Bool, true, false, cond, List, [], ◌∷◌, ◌++◌, length, refl, sym, ap, subst, ◌∙◌, arith}
 use Rattle.std.specs.Prelude.{count_by}
 use Rattle.std.proofs.lemmas.List.Sums.{sum_by-cons}
@@ -104,7 +104,7 @@ first_run talker a b v w [] moments (none, is, also) = ([], (refl, is))
 first_run talker a b v w (e ∷ es) moments (n, m, later, ((s, step), other), run, is) =
     let (rest, runs) = first_run talker n m v w es later run in (s ++ rest, (s, rest, n, step, runs, refl))
 
--- ## Events determine where both gateways end
+-- ## Events determine the last worlds of both gateways
 
 unless_once : OneOutcome → (b : Bool) (w : World) (e : Event) (y z : World) → StepUnless b w e y →
     StepUnless b w e z → y ≡ z

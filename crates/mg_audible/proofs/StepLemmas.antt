@@ -1,4 +1,4 @@
--- One event that arrives at both gateways, or at the first alone.
+-- An event arrives at both gateways, or only at the first one.
 use Rattle.std.proofs.Common.{◌≡◌, ℕ, Bool, true, false, List, [], map, refl, sym, subst}
 use Rattle.mg_engine.specs.declared.taken.Taken.{Taken}
 use Rattle.mg_words.specs.Leads.{Leads}
@@ -34,7 +34,7 @@ both_tick talker v w = (
   (map Packet (packets_of w), (refl, refl)),
 )
 
--- ## Cores
+-- ## Steps of the two cores
 
 abbrev TakesAt : ℕ → Peer → List ℕ → Taken → World → World → Type 0
 TakesAt port source bytes taken w next = TakesMedia w port source bytes next taken

@@ -1,6 +1,6 @@
--- A talker is audible to a listener if the gateway sends the listener other bytes than it would send without having
--- received the talker's speech. Intervals follow from moments as in `mg_heard`. Here, each tick has a moment: the flows
--- whose listeners are sent other bytes.
+-- A talker is audible to a listener if the talker's speech changes the bytes that the gateway sends to the listener.
+-- Intervals follow from moments as in `mg_heard`. Here, each tick has a moment: the flows whose listeners are sent
+-- different bytes.
 use Rattle.std.specs.Prelude.{◌≡◌, ℕ, ◌==◌, not, Bool, List, [], ◌∷◌, filter, find, map}
 use Rattle.std.specs.Prelude.{reverse, if◌then◌else◌}
 use Rattle.std.specs.Option.{option_map_or}
@@ -19,19 +19,18 @@ use Rattle.mg_audible.specs.Without.{StepWithout}
 
 -- ## One tick
 
--- The bytes of the first packet that is sent from a port, or no bytes if there is no such packet. No port has two
--- packets.
+-- The bytes of the first packet from a port, or no bytes if there is no such packet. No port has two packets.
 abbrev pub bytes_from : ℕ → List Datagram → List ℕ
 bytes_from port packets = option_map_or (λ d. d.bytes) (find (λ d. d.from == port) packets) []
 
--- In the next tick, the first world sends the termination with this record other bytes than the second.
+-- In the next tick, the two worlds send different bytes to the termination with this record.
 abbrev pub is_sent_other : World → World → Record → Bool
 is_sent_other v w r =
     let port = slot_port v.gateway.rooms.limits r.slot in
     not (bytes_eq (bytes_from port (packets_of v)) (bytes_from port (packets_of w)))
 
--- The flows from the talker to the terminations that are sent other bytes in the next tick, in order of listeners, with
--- the data of the first world.
+-- The flows from the talker to the terminations to which the two worlds send different bytes in the next tick. They are
+-- in order of listeners, with the data of the first world.
 abbrev pub audible_flows : ℕ → World → World → List OpenFlow
 audible_flows talker v w =
     map (λ r. open_flow v.gateway r.number talker)
@@ -39,8 +38,8 @@ audible_flows talker v w =
 
 -- ## All ticks
 
--- Events arrive at two gateways, one after another, but the talker's speech only at the first. `moments` lists the
--- audible flows of each tick, and the gateways end in the worlds `last` and `other`.
+-- Events arrive at two gateways, one after another, but the talker's speech arrives only at the first gateway.
+-- `moments` lists the audible flows of each tick, and the gateways end in the worlds `last` and `other`.
 abbrev pub RunsWithout : ℕ → World → World → List Event → List (List OpenFlow) → World → World
     → Type 0
 RunsWithout talker v w [] moments last other = (moments ≡ []) × (last ≡ v) × (other ≡ w)

@@ -16,10 +16,10 @@ use Rattle.mg_heard.specs.Intervals.{Interval}
 use Rattle.mg_heard.specs.Laws.{IsToldAt}
 use Rattle.mg_audible.specs.Audible.{RunsWithout, is_sent_other}
 
--- ## What differs
+-- ## Ticks whose bytes differ
 
--- Two gateways with this configuration have received these events, the second without the talker's
--- speech. In the next tick, they send this listener different bytes.
+-- Two gateways with this configuration have received these events, but the second gateway has not received the talker's
+-- speech. In the next tick, they send different bytes to this listener.
 abbrev pub Differs : Config → (talker listener : ℕ) → (past : List Event) → Type 0
 Differs config talker listener past =
     (moments : List (List OpenFlow)) × (whole : World) × (without : World)
@@ -34,7 +34,7 @@ TellsDifferences config talker events ys =
     → IsToldAt (count_by is_tick past) talker listener ys
     ↔ Differs config talker listener past
 
--- ## What it shows
+-- ## Differences are speech
 
 -- The talker's speech flows to the listener, or the listener is the talker, in Loopback.
 abbrev pub reaches : Gateway → ℕ → ℕ → Bool

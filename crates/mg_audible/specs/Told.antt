@@ -1,4 +1,5 @@
--- Everything that is reported to a sink about a talker: when the talker was audible, and what follows from that.
+-- Everything that is reported to a sink about a talker: when the talker was audible, and the laws about these
+-- intervals.
 use Rattle.std.specs.Prelude.{◌≡◌, ℕ, List, [], reverse, All}
 use Rattle.mg_engine.specs.declared.config.Config.{Config}
 use Rattle.mg_core.specs.Note.{Note, events_in}
@@ -8,8 +9,8 @@ use Rattle.mg_heard.specs.Told.{HasMoments, IsDated, audible_in, gaps_in, interv
 use Rattle.mg_audible.specs.Audible.{AreAudible}
 use Rattle.mg_audible.specs.Laws.{TellsDifferences, TellsSpeech}
 
--- After a whole script, exactly the intervals in which the talker is audible and the script's gaps have been reported,
--- in order and each once, and the intervals have the right dates.
+-- After a whole script, exactly its gaps and the intervals in which the talker is audible have been reported, in order
+-- and each once. The intervals have the right dates.
 pub record TellsAudible (config : Config) (talker : ℕ) (notes : List Note)
     (Told : List Entry → Type 0) : Type 0 where
   pub xs : List Entry

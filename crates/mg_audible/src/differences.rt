@@ -23,7 +23,7 @@ fn packet_from(port: u16, packets: &[Datagram]) -> Option<Datagram>
     packets.iter().copied().find(|packet| packet.from == port)
 }
 
-/// Returns the bytes of a packet, or no bytes if there is none.
+/// Returns the bytes of a packet, or no bytes if `packet` is `None`.
 fn bytes_of(packet: &Option<Datagram>) -> &[u8]
     ensures value { result.now ≡ option_map_or (λ d. d.bytes) packet.now [] }
 {
@@ -33,7 +33,7 @@ fn bytes_of(packet: &Option<Datagram>) -> &[u8]
     }
 }
 
-/// Returns whether two outboxes have different packets from a port.
+/// Returns whether the packets from a port differ between two outboxes.
 fn differ(port: u16, whole: &[Datagram], without: &[Datagram]) -> bool
     ensures value { result ≡ not (bytes_eq (bytes_from port whole.now) (bytes_from port without.now)) }
 {

@@ -68,7 +68,7 @@ fn has_rtp(core: &Core) -> bool
     core.counts().media > 0
 }
 
-/// Returns the reason why a script was not run to its end, given the reason why its follower stopped.
+/// Returns the reason why a script was not run to its end. `stopped` is the reason why its follower stopped.
 fn fault_of(fault: RunFault, stopped: Option<HeardFault>) -> HeardFault {
     match (fault, stopped) {
         (RunFault::Write, Some(own)) => own,

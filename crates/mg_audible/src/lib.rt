@@ -1,8 +1,8 @@
-//! When a talker was audible: the intervals in which the talker's speech changed what a listener was sent.
+//! When a talker was audible: the intervals in which the talker's speech changed what the gateway sent to a listener.
 //!
-//! [`hear_talker`] runs a full recording on two gateways. One gateway receives all events. The other doesn't receive
-//! the talker's speech: the RTP datagrams that arrive at the talker's port. If a tick's packets to a listener differ,
-//! the talker was audible to that listener:
+//! [`hear_talker`] runs a full recording on two gateways. One gateway receives all events. The other gateway receives
+//! all but the talker's speech, which is the RTP datagrams that arrive at the talker's port. If a tick's packets to a
+//! listener differ, the talker was audible to that listener:
 //!
 //! ```rust
 //! let (sink, has_rtp) = hear_talker(alloc, config, &mut input, 3, sink)?;

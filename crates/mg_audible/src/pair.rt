@@ -11,7 +11,7 @@ use crate::ports::is_port_of;
 use mg_core::{Config, Core, NoMemory, Peer, StartFault, TERMINATIONS};
 use std::alloc::Global;
 
-/// Two gateways with the same events, except that the second does not receive the talker's speech.
+/// Two gateways with the same events, except that the second gateway does not receive the talker's speech.
 #[derive(Drop)]
 pub(crate) struct Pair {
     /// The talker's number.

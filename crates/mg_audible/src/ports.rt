@@ -5,7 +5,7 @@ ghost use Rattle.mg_audible.specs.Without.{is_port_of};
 
 use mg_core::Core;
 
-/// Returns whether a port is that of the termination with this number.
+/// Returns whether a port belongs to the termination with this number.
 pub(crate) fn is_port_of(core: &Core, number: u32, port: u16) -> bool
     ensures value { (w : World) → StandsFor core.now.state w → result ≡ is_port_of w.gateway number port }
 {

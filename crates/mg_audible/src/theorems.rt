@@ -2,8 +2,8 @@
 
 ghost use Rattle.mg_audible.specs.Laws.{DifferencesAreSpeech};
 
-/// If the gateway sends a listener other bytes than it would without a talker's speech, the talker's speech reaches the
-/// listener in that tick: it flows to the listener, or the listener is the talker, in Loopback.
+/// If a talker's speech changes the bytes that the gateway sends to a listener in a tick, the speech reaches the
+/// listener in that tick. This means that it flows to the listener, or that the listener is the talker, in Loopback.
 ///
 /// This theorem is the contrapositive of [`mg_core::theorems::unheard_changes_nothing`].
 pub fn differences_are_speech()

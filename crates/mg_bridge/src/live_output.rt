@@ -24,7 +24,7 @@ impl<P: Pipe, E: Write> LiveOutput<P, E> {
         self.outlet.finish()
     }
 
-    /// Reports that the output has ended, if that happened since the last call.
+    /// If the output has ended since the last call, reports this to the operator.
     fn report_end(&mut self) {
         if self.outlet.has_ended() && !self.has_reported {
             self.has_reported = true;

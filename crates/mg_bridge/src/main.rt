@@ -9,7 +9,7 @@
 //! `mg_pace`, writes `poll` and `tick` when the clock says that they are due.
 //!
 //! With `--record`, `live` and `serve` print a recording: a script of all events. While they run, they don't wait for
-//! the readers of standard output and standard error. All other subcommands do.
+//! the readers of standard output and standard error. All other subcommands wait for these readers.
 #![tactic(auto)]
 
 mod live_output;

@@ -1,5 +1,5 @@
-//! Tests of values of the libraries, and of clocks and random numbers that fail, which no run of the built program
-//! shows. Everything else is tested on the built program.
+//! Tests of what no run of the built program shows: values of the libraries, and clocks and random numbers that fail.
+//! Everything else is tested on the built program.
 
 mod drawing;
 mod emptied;
@@ -24,7 +24,7 @@ fn caller(rt: &HostRuntime) -> io::Result<(UdpSocket, u16)> {
     Ok((socket, port))
 }
 
-/// Returns two free ports, for media and for control. The first is even.
+/// Returns two free ports, for media and for control. The media port is even.
 fn free_ports(rt: &HostRuntime) -> Result<(u16, u16), Fail> {
     for _ in 0..100 {
         let (_media, base) = caller(rt)?;

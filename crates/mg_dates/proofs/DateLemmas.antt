@@ -17,13 +17,13 @@ grouped seal mark text feed lines =
     ∙ (append_assoc seal ((mark ++ text) ++ feed) lines
     ∙ ap (λ (l : List ℕ). seal ++ (l ++ lines)) (append_assoc mark text feed)))
 
--- Appending the lines by themselves, without a seal or a date, satisfies `AppendsDated`.
+-- If only the lines were appended, without a seal and a date, `AppendsDated` holds.
 pub undated : (lines : List ℕ) (durability : Durability) (old new : JournalState)
     (result : Result (Unit {0}) AppendFault) → Appends lines durability old new result
     → AppendsDated lines durability old new result
 undated lines durability old new result appends = ([], [], inl refl, inl refl, appends)
 
--- Appending the lines after a line for a date, perhaps with a seal before the date, satisfies `AppendsDated`.
+-- If the lines were appended after a line with a date, and perhaps a seal before the date, `AppendsDated` holds.
 pub dates : (seal text lines written : List ℕ) (durability : Durability) (old new : JournalState)
     (result : Result (Unit {0}) AppendFault) → (seal ≡ []) ⊎ IsSeal (text_to_seal old) seal → IsShortLine text
     → written ≡ (((seal ++ codes "# time ") ++ text) ++ codes "\n") ++ lines

@@ -17,7 +17,7 @@ use Rattle.mg_dates.specs.declared.agreement.Agreement.TheVariants.{Agrees, Firs
 use Rattle.mg_dates.specs.declared.date.Date.{Date}
 use Rattle.mg_dates.specs.declared.timeline.Timeline.{Timeline}
 
--- ## Dates
+-- ## Dates in comments
 
 cond_both : {A : Type 0} (a b : Bool) (x y : A) → a ≡ true → b ≡ true → cond (a && b) x y ≡ x
 cond_both true true x y h k = refl
@@ -63,7 +63,7 @@ same_ticks (suc n) = reverse-append (Happened Tick ∷ []) (ticks_of n)
 pub back_ticks : (notes : List Note) (n : ℕ) → reverse (notes ++ ticks_of n) ≡ ticks_of n ++ reverse notes
 back_ticks notes n = reverse-append notes (ticks_of n) ∙ ap (λ (l : List Note). l ++ reverse notes) (same_ticks n)
 
--- ## Timelines
+-- ## Timelines after more notes
 
 pub no_tick : (event : Event) → event ≢ Tick → is_tick event ≡ false
 no_tick (Control source bytes) h = refl

@@ -1,4 +1,5 @@
--- The times of the ticks of a script, according to the dates in its comments. Notes come newest first.
+-- The times of the ticks of a script, according to the dates in its comments. Lists of notes start with the newest
+-- note.
 use Rattle.std.specs.Prelude.{ℕ, ◌+◌, ◌*◌, ◌-◌, ◌^◌, ◌&&◌, min, nat_le, List, [], ◌∷◌, codes}
 use Rattle.std.specs.Prelude.{take, drop, Option, Some, None, if◌then◌else◌}
 use Rattle.std.specs.Option.{option_map, option_map_or}
@@ -18,7 +19,7 @@ date_in line =
     if bytes_eq (take 7 line) (codes "# time ") && is_utf8 (drop 7 line)
     then date_of_text (drop 7 line) else None
 
--- The number, or the greatest 64-bit number if that is smaller.
+-- The number, limited to the greatest 64-bit number.
 abbrev pub up_to_limit : ℕ → ℕ
 up_to_limit n = min n (2 ^ 64 - 1)
 
@@ -27,7 +28,7 @@ abbrev pub next_tick : Timeline → Option Date
 next_tick t =
     option_map (λ date. record { millis = up_to_limit (date.millis + 20 * t.ticks) }) t.start
 
--- How a date compares with the expected one: the two agree if they are at most a second apart.
+-- How a date compares with the expected date. The two dates agree if they are at most a second apart.
 abbrev pub agreement_of : Option Date → Date → Agreement
 agreement_of None date = First
 agreement_of (Some expected) date =

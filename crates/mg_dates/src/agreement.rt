@@ -3,10 +3,10 @@
 pub enum Agreement {
     /// The date is the journal's first.
     First,
-    /// The date is within a second of that time.
+    /// The date is within a second of the computed time.
     Agrees,
-    /// The date is earlier than that time: the clock was set back.
+    /// The date is earlier than the computed time: the clock was set back.
     WentBack,
-    /// The date is later than that time: the clock was set ahead, or ticks are missing.
+    /// The date is later than the computed time: the clock was set ahead, or ticks are missing.
     JumpedAhead,
 }

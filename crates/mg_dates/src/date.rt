@@ -27,8 +27,8 @@ impl Date {
         }
     }
 
-    /// Parses the time in a text such as `2026-11-27T14:03:20.5Z`. Returns `None` if the text has another form, or if
-    /// the time is before 1970.
+    /// Parses a time such as `2026-11-27T14:03:20.5Z`. Returns `None` if the text has another form, or if the time is
+    /// before 1970.
     pub fn of_text(text: &str) -> Option<Date>
         ensures value { result ≡ date_of_text text.now }
     {

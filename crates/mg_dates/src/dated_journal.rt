@@ -32,7 +32,7 @@ const SEAL: usize = 9 + END;
 /// The capacity of the buffer, in bytes.
 const TEXT_ROOM: usize = LINES_ROOM + TEXT_LIMIT + MARKS + SEAL;
 
-/// Lines without a message get a new date if the last one is at least this old, in milliseconds. A date gets a seal if
+/// Lines without a message get a new date if the last date is at least this old, in milliseconds. A date gets a seal if
 /// the last seal is at least this old.
 const MAX_AGE: u64 = 60_000;
 
@@ -41,7 +41,7 @@ const MAX_AGE: u64 = 60_000;
 ///
 /// A date is preceded by a seal (`mg_chain`): before the first lines, and then once a minute.
 ///
-/// A line that begins with `control` is a message; all others are `ticks` with a number.
+/// A line that begins with `control` is a message; all other lines are `ticks` with a number.
 #[derive(Drop)]
 pub struct DatedJournal<'a, J: Journal, C: Clock> {
     journal: J,
@@ -70,7 +70,7 @@ fn is_message(lines: &[u8]) -> bool {
     lines.starts_with(b"control")
 }
 
-/// Returns the number of ticks in a line such as `ticks 12`, or 0 if it is not such a line.
+/// Returns the number of ticks in a line such as `ticks 12`, or 0 for any other line.
 fn count_in(line: &[u8]) -> u64 {
     let Some(rest) = line.strip_prefix(b"ticks ".as_slice()) else {
         return 0;
@@ -111,7 +111,7 @@ fn sealed_at(is_due: bool, date: Date, last: Option<Date>) -> Option<Date> {
     if is_due { Some(date) } else { last }
 }
 
-/// Empties a text and, if a seal is due, starts it with the seal of a journal.
+/// Empties the text and, if a seal is due, starts it with the journal's seal.
 fn start_text<J: Journal>(is_due: bool, journal: &J, text: &mut Bytes)
     requires room { SEAL ≤ text.old.room + length text.old.text }
     ensures seal { (text.new.text ≡ []) ⊎ IsSeal (text_to_seal (J.journal journal.now)) text.new.text }
@@ -148,7 +148,7 @@ impl<'a, J: Journal, C: Clock> DatedJournal<'a, J, C> {
         &self.journal
     }
 
-    /// Returns the date that these lines need, or `None` if they need none.
+    /// Returns the date that these lines need, or `None` if they don't need a date or the clock can't be read.
     fn next_date(&self, lines: &[u8]) -> Option<Date> {
         let Ok(now) = Date::now(self.clock) else {
             return None;
@@ -168,7 +168,7 @@ impl<'a, J: Journal, C: Clock> DatedJournal<'a, J, C> {
         self.journal.append(lines, durability)
     }
 
-    /// Appends lines, after a date if they need one, and a seal if the date needs one.
+    /// Appends lines. Puts a date before them if they need one, and a seal before the date if the date needs one.
     pub fn append(&mut self, lines: &[u8], durability: Durability) -> Result<(), AppendFault>
         requires line_feed { EndsInLineFeed lines.now }
         ensures value { AppendsDated lines.now durability self.old self.new result }

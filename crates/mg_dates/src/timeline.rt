@@ -8,8 +8,7 @@ use crate::date::Date;
 use crate::date_text::date_in;
 use mg_core::{Core, Event, Follower, Stopped};
 
-/// The number of ticks that a crash can lose even if the journal works: one second's worth, because that many are
-/// appended together.
+/// The number of ticks that count as missed if the clock was set back: one second's worth.
 const LOST: u64 = 50;
 
 /// The length of a tick, in milliseconds.
@@ -27,12 +26,12 @@ const TOLERANCE: u64 = 1000;
 pub struct Timeline {
     /// The date from which ticks are counted, or `None` before the first date.
     pub start: Option<Date>,
-    /// The number of ticks since that date.
+    /// The number of ticks since `start`.
     pub ticks: u64,
 }
 
 /// Returns how many ticks were missed between `date` and `now`, if `ticks` ticks followed `date`. If the clock has been
-/// set back since then, returns the number of ticks that a crash can lose.
+/// set back since then, one second's worth of ticks counts as missed.
 fn missed_ticks(date: Date, ticks: u64, now: Date) -> u64
     ensures value { result ≡ missed_ticks date.millis ticks now.millis }
 {
@@ -46,7 +45,7 @@ fn missed_ticks(date: Date, ticks: u64, now: Date) -> u64
     passed - ticks
 }
 
-/// Returns how a date compares with the time that was expected.
+/// Returns how a date compares with the expected time.
 fn agreement_of(expected: Date, date: Date) -> Agreement
     ensures value { result ≡ agreement_of (Some expected) date }
 {

@@ -50,14 +50,14 @@ fn is_name_byte(byte: &u8) -> bool {
     byte.is_ascii_alphanumeric() || matches!(byte, b'_' | b'-' | b'+' | b'/')
 }
 
-/// Returns whether a text can be the name of a zone: a relative path that doesn't leave its folder.
+/// Returns whether text can be the name of a zone: a relative path that doesn't leave its folder.
 fn is_zone_name(text: &[u8]) -> bool {
     !text.starts_with(b"/") && text.iter().all(is_name_byte)
 }
 
 impl Zone {
     /// Finds the zone with this name: `UTC`, an offset such as `+01:00`, or a zone of the system, such as
-    /// `Europe/Berlin`. Returns `None` if there is none, or if its file can't be read.
+    /// `Europe/Berlin`. Returns `None` if no zone has this name, or if the zone's file can't be read.
     pub fn find<F: Files>(files: &F, alloc: Global, name: &str) -> Option<Zone> {
         if name == "UTC" {
             return Some(Zone::Utc);

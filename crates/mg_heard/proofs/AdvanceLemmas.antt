@@ -33,7 +33,7 @@ filter_both : {X Y : Type 0} (q : Y → Bool) (f : X → Y) (xs : List X) →
 filter_both q f [] = refl
 filter_both q f (x ∷ xs) = filter_first f (q (f x)) x (filter (λ x. q (f x)) xs) (filter q (map f xs)) (filter_both q f xs)
 
--- ## An interval that begins with an earlier one
+-- ## An interval continues an earlier one
 
 begun_at : OpenInterval → Option Moment → OpenInterval
 begun_at x o = option_map_or (λ first. record x { first = first }) o x
@@ -126,7 +126,7 @@ tick_of past old now x None h tick none = elim (cases_Bool (has (newest past) x)
   | inr e ↦ tick ∙ sym (since_none past x e)
 ]
 
--- ## Those that last
+-- ## The intervals that last
 
 one_lasts : (past : List (List OpenFlow)) (old : List OpenInterval) (now : Moment) (next : List OpenFlow) (x : OpenFlow) →
     map still_open old ≡ lasting past → now.tick ≡ length past → In x next →
@@ -147,7 +147,7 @@ new_last past old now next h tick =
     ∙ map_agree (λ x. still_open (continued old (beginning_at now x))) (interval_of (next ∷ past) None) next
     (λ x i. one_lasts past old now next x h tick i)
 
--- ## Those that have ended
+-- ## The intervals that have ended
 
 with_end : ℕ → Interval → Interval
 with_end tick y = record y { end = Some tick }
@@ -165,7 +165,7 @@ rest_ended past old tick next h e =
     ∙ map_both (with_end tick) (interval_of past None) (filter q (newest past))
     ∙ ap (λ (n : ℕ). map (interval_of past (Some n)) (filter q (newest past))) e
 
--- ## Both
+-- ## One more moment
 
 pub advanced : (past : List (List OpenFlow)) (now : Moment) (next : List OpenFlow)
     (old filled new ended : List OpenInterval) → now.tick ≡ length past → AreLasting past old →

@@ -1,4 +1,4 @@
--- Who has come after some events.
+-- Which terminations have come after some events, and who is missing.
 use Rattle.std.proofs.Common.{◌≡◌, ◌∙◌, ◌⊎◌, ◌↔◌, ◌&&◌, ◌||◌, ◌+◌, ℕ, suc, zero, not, Bool, true, false, List, [], ◌∷◌, ◌++◌, Option, Some, arith, drop, get_or, length, map, set, take, replicate, slice_get, ◌<◌, Result, Ok, Err, OnOk, refl, sym, ap, subst, inl, inr, is_some}
 use Rattle.std.proofs.lemmas.Bool.{and_parts, false≢true}
 use Rattle.std.proofs.lemmas.List.{append-nil, append_assoc, at_drop_more, drop-set-lt, drop_more, map_push, take_more, take_more_set}
@@ -38,7 +38,7 @@ abbrev pub named_in : Option (List PartyName) → List Record → Bool
 named_in keys rs = list_any (λ r. is_asked keys r.number
     (option_map (λ c. record { address = c.address; port = c.port }) r.remote)) rs
 
--- One termination more is compared with the keys.
+-- A question asks about a record from index `i` on if it asks about the record at `i` or about a later one.
 pub named_step : (keys : Option (List PartyName)) (rs : List Record) (i : ℕ) (r : Record) (p : Party) (b : Bool) →
     i < length rs → slice_get rs i ≡ Some r → p ≡ party_of r → b ≡ is_asked keys p.number p.at →
     named_in keys (drop i rs) ≡ (b || named_in keys (drop (i + 1) rs))
@@ -55,7 +55,7 @@ nil_left : (a b : List Event) → [] ≡ a ++ b → a ≡ []
 nil_left [] b h = refl
 nil_left (x ∷ a) b h = absurd cc
 
--- The beginning of some events and one more event either is one of the events before it, or all of them.
+-- A beginning of a list with one more event `e` is either a beginning of the shorter list, or the whole list.
 cut_last : (past future events : List Event) (e : Event) → events ++ e ∷ [] ≡ past ++ future →
     ((rest : List Event) × (events ≡ past ++ rest)) ⊎ (past ≡ events ++ e ∷ [])
 cut_last [] future events e is = inl (events, refl)
@@ -79,7 +79,7 @@ run_last a w (x ∷ events) e sent (first, others, next, step, run, is) =
     let (before, mid, last, k, s) = run_last next w events e others run in
     (first ++ before, mid, last, (first, before, next, step, k, refl), s)
 
--- ## Coming
+-- ## Whether a termination has come
 
 come_now : (config : Config) (events : List Event) (sent : List Sent) (w : World) (keys : Option (List PartyName)) →
     Run (start_of config) events sent w → has_asked keys w.gateway ≡ true → HasCome config events keys
@@ -221,7 +221,7 @@ same_each config old new (start ∷ others) [] on back h = absurd h
 same_each config old new (start ∷ others) (r ∷ rolls) on back h =
     (same_one config old new start r on back h.0, same_each config old new others rolls on back h.1)
 
--- ## Rolls that are called in turn
+-- ## Rolls, one after another
 
 same_items : (old rolls : List Roll) (i : ℕ) (d : Roll) → i < length old → i < length rolls →
     drop i rolls ≡ drop i old → get_or rolls i d ∷ drop (i + 1) rolls ≡ get_or old i d ∷ drop (i + 1) old
@@ -246,7 +246,7 @@ step_rest old rolls i x d there within rest =
     let same : drop (i + 1) rolls ≡ drop (i + 1) old = cc items in
     drop-set-lt (i + 1) rolls i x (omega arith) ∙ same
 
--- ## Notes
+-- ## Rolls after one more note
 
 pub called_comment : (config : Config) (notes : List Note) (line : List ℕ) (start rolls : List Roll) →
     AreCalled config (events_in notes) start rolls →
@@ -284,7 +284,7 @@ called_control one config notes e s w start rolls new is run h =
     (called_each one config (events_in notes) e s w start rolls
     (subst (λ (l : List Event). Run (start_of config) l s w) both run) h))
 
--- ## The beginning and the end
+-- ## Rolls at the beginning and at the end of a script
 
 new_one : (config : Config) (talker listener : Option (List PartyName)) (r : Roll) → IsNew talker listener r →
     IsCalled config [] r r
@@ -325,7 +325,7 @@ for_more [] (x ∷ rolls) rule r h new = absurd h
 for_more (one ∷ rules) [] rule r h new = absurd h
 for_more (one ∷ rules) (x ∷ rolls) rule r h new = (h.0, for_more rules rolls rule r h.1 new)
 
--- The only roll has the answer.
+-- If there is only one roll, what it records as missing is what is missing.
 pub single : (config : Config) (events : List Event) (talker listener : Option (List PartyName)) (r : Roll)
     (rolls last : List Roll) (missing : Missing) → rolls ≡ r ∷ [] → IsNew talker listener r →
     ((x : Roll) → last ≡ x ∷ [] → missing ≡ x.missing) → AreCalled config events rolls last →
@@ -354,7 +354,8 @@ pub with_called : {A E : Type 0} (result : Result A E) (P Q : Type 0) → OnOk r
 with_called (Ok done) P Q h k = (h, k)
 with_called (Err error) P Q h k = tt
 
--- What follows from a run and from a follower's notes is true of the notes.
+-- If a run and `Follows` imply `More` of the notes, a script that was followed with `Follows` was also followed with
+-- `More`.
 pub followed_more : (config : Config) (input rest : Option (List ℕ)) (state : CoreState)
     (Follows More : List Note → Type 0) → ((notes : List Note) → HasRun config notes state → Follows notes → More notes) →
     IsFollowed config input rest state Follows → IsFollowed config input rest state More

@@ -26,14 +26,14 @@ passed_more other xs from place d rising within before k e above below =
     omega arith)
     (take from other) before
 
--- ## Each interval begins with the earlier one
+-- ## Each interval continues the earlier one of its flow
 
 pub record Continues (earlier old new : List OpenInterval) (from place : ℕ) : Type 0 where
   pub front : take place new ≡ map (continued earlier) (take place old)
   pub rest : drop place new ≡ drop place old
   pub passed : HasPassed earlier old from place
 
--- The element at `place` has not been changed yet.
+-- If the elements from `place` on are unchanged, so are the element at `place` and the elements after it.
 rest_both : (old new : List OpenInterval) (place : ℕ) (d : OpenInterval) → place < length new → place < length old →
     drop place new ≡ drop place old →
     get_or new place d ∷ drop (place + 1) new ≡ get_or old place d ∷ drop (place + 1) old
@@ -123,7 +123,7 @@ pub continues_all : (earlier old new : List OpenInterval) (from place : ℕ) →
 continues_all earlier old new from place long past h =
     sym (take_all place new past) ∙ h.front ∙ ap (map (continued earlier)) (take_all place old (omega arith))
 
--- ## Those that have ended
+-- ## The intervals that have ended
 
 begun_among : (flow : OpenFlow) (xs : List OpenInterval) (o : Option OpenInterval) → find (λ x. is_same flow x.flow) xs ≡ o →
     is_some (option_map (λ x. x.first) o) ≡ is_some o

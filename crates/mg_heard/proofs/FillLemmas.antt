@@ -147,7 +147,7 @@ nobody = record {
   talkers = 0;
 }
 
--- ## Order
+-- ## Order of the stored intervals
 
 below_32 : (w : Gateway) → IsConsistent w.rooms → (n : ℕ) → In n (numbers_of w) → n < 2 ^ 32
 below_32 w h n i =

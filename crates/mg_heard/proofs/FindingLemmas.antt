@@ -19,7 +19,7 @@ use Rattle.mg_heard.specs.declared.verdict.Verdict.{Verdict}
 use Rattle.mg_heard.specs.Told.{TellsAll}
 use Rattle.mg_heard.specs.Verdict.{gap_at, heard_at, is_in_gap, is_within, verdict_at, verdict_of}
 use Rattle.mg_heard.specs.aids.Finding.{HasFound}
-use Rattle.mg_heard.proofs.KeepingLemmas.{tells_weaker}
+use Rattle.mg_heard.proofs.KeptTickLemmas.{tells_weaker}
 
 or_none : {A : Type 0} (o : Option A) → option_or o None ≡ o
 or_none None = refl
@@ -81,13 +81,13 @@ found_gap start old new before x e h = subst (λ (y : Instant). HasFound start y
     (sym e) (found_more start old before (entries.Gap x) old.heard
     (option_or old.gap (gap_at old.time (entries.Gap x ∷ []))) (sym (or_none old.heard)) refl h)
 
--- An audible interval answers no question about who could be heard.
+-- `HasFound` still holds after an `Audible` entry, which answers no question about who could be heard.
 pub found_audible : (start old : Instant) (before : List Entry) (x : Interval) → HasFound start old before →
     HasFound start old (before ++ entries.Audible x ∷ [])
 found_audible start old before x h = found_more start old before (entries.Audible x) old.heard old.gap
     (sym (or_none old.heard)) (sym (or_none old.gap)) h
 
--- ## The answer
+-- ## The sink's answer
 
 pub found_none : (start : Instant) → HasFound start start []
 found_none start = record {

@@ -15,7 +15,7 @@ use Rattle.mg_heard.specs.OpenFlows.{flows_to, open_flow, open_flows}
 use Rattle.mg_heard.proofs.Members.{In, Pairs, from_filter, from_flat_map, from_map, in_filter, in_flat_map, in_map, pairs_filter, pairs_flat_map, pairs_from_all, pairs_map}
 use Rattle.mg_heard.proofs.OnceLemmas.{AreApart}
 
--- ## Those that are open are listed
+-- ## Open flows are listed
 
 found_at : (p : Record → Bool) (r x : Record) (xs : List Record) (b : Bool) → p x ≡ b →
     cond b (Some x) (find p xs) ≡ Some r → (find p xs ≡ Some r → In r xs × (p r ≡ true)) →
@@ -59,7 +59,7 @@ open_in w talker listener h =
     (in_filter (λ n. flow w n listener) talker (numbers_of w)
     (talker_at w talker (record_at w.rooms talker) refl c.0) h))
 
--- ## Those that are listed are open
+-- ## Listed flows are open
 
 pub record IsOpenIn (w : Gateway) (x : OpenFlow) : Type 0 where
   pub flows : flow w x.talker x.listener ≡ true

@@ -42,7 +42,7 @@ flat_same : {X Y : Type 0} (f g : X → List Y) (xs : List X) → ((x : X) → I
 flat_same f g [] h = refl
 flat_same f g (x ∷ xs) h = λ i. h x (inl refl) i ++ flat_same f g xs (λ y j. h y (inr j)) i
 
--- Filtering a mapped list is the same as mapping the filtered list, by one more element.
+-- The induction step of `mapped`: the filter keeps the first element `x` if `b` is true.
 mapped_first : {X Y Z : Type 0} (f : X → Y) (g : Y → Z) (b : Bool) (x : X) (xs : List X) (ys : List Y) →
     map g ys ≡ map (λ x. g (f x)) xs →
     map g (cond b (f x ∷ ys) ys) ≡ map (λ x. g (f x)) (cond b (x ∷ xs) xs)
@@ -145,7 +145,7 @@ are_flows w hs sound h =
     ap (λ (ts : List Seated). flat_map (flows_heard ts) hs) h.seated
     ∙ each_heard w sound hs w.rooms.terminations h.seated h.talkers (λ r i. i)
 
--- ## Their number
+-- ## The number of flows to a termination
 
 one_few : (a b : Bool) (t : Seated) (ts : List Seated) (m : ℕ) → length ts ≤ m →
     length (cond (a && b) (t ∷ ts) ts) ≤ cond a 1 0 + m

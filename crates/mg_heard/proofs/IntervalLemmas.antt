@@ -19,7 +19,7 @@ open_before [] k x h = absurd h
 open_before (flows ∷ older) k x (inl h) = let e = h.0 in omega arith
 open_before (flows ∷ older) k x (inr h) = let below = open_before older k x h in omega arith
 
--- A flow that is open in a moment other than the newest is open in an older one.
+-- A flow that is open in an older moment is still open in it if the newest moment is removed.
 pub open_older : (flows : List OpenFlow) (older : List (List OpenFlow)) (k : ℕ) (x : OpenFlow) → k < length older →
     IsOpen (flows ∷ older) k x → IsOpen older k x
 open_older flows older k x below (inl h) = let e = h.0 in absurd (omega arith)
@@ -76,7 +76,7 @@ since_newest (flows ∷ older) x h =
     let e = has_from_in flows x h in
     rw e (omega arith)
 
--- One more moment with the flow doesn't change since when the flow has been open.
+-- If a flow is also open in one more moment, the flow's beginning stays the same.
 pub since_more : (flows : List OpenFlow) (older : List (List OpenFlow)) (x : OpenFlow) → has flows x ≡ true →
     since (flows ∷ older) x ≡ since older x
 unfolding since
@@ -139,9 +139,9 @@ has_ended (flows ∷ older) y h = elim (in_cases y (ended older) (ending older f
       )
 ]
 
--- ## Each open flow is told
+-- ## Each open flow is reported
 
--- An interval of this flow has ended and contains this tick.
+-- An interval of this flow has ended and contains the tick `k`.
 pub record IsToldEnded (past : List (List OpenFlow)) (k : ℕ) (x : OpenFlow) : Type 0 where
   pub y : Interval
   pub end : ℕ

@@ -1,4 +1,4 @@
--- Intervals and the worlds of a history.
+-- The laws about the intervals of a history and its worlds.
 use Rattle.std.proofs.Common.{◌≡◌, ℕ, true, List, [], refl, sym, ap, subst, ◌∙◌}
 use Rattle.std.specs.Prelude.{count_by, reverse}
 use Rattle.mg_engine.specs.Flow.{flow}

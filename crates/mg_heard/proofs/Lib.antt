@@ -13,9 +13,11 @@ pub mod HearerLemmas
 pub mod FillLemmas
 pub mod AdvanceLemmas
 pub mod RowLemmas
+pub mod ListenerRowLemmas
 pub mod TimingLemmas
 pub mod BegunLemmas
 pub mod KeepingLemmas
+pub mod KeptTickLemmas
 pub mod CallingLemmas
 pub mod WatchLemmas
 pub mod FindingLemmas

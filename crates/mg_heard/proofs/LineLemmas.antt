@@ -1,4 +1,4 @@
--- The lengths of the texts that are written.
+-- The maximum lengths of the parts of a line.
 use Rattle.std.proofs.Common.{ℕ, ◌<◌, ◌≤◌, ◌^◌, length, length-append, append_assoc, arith}
 use Rattle.std.proofs.lemmas.Fmt.{length-decimal-le}
 use Rattle.std.specs.Prelude.{decimal}

@@ -64,7 +64,7 @@ open_from_at (flows ∷ older) k x h = elim (cases_order k (length older)) [
   ]
 ]
 
--- ## Intervals that are told
+-- ## Reported intervals are true and maximal
 
 -- The interval is true and maximal for a past, whose moments come newest first.
 record IsRun (past : List (List OpenFlow)) (y : Interval) : Type 0 where
@@ -107,7 +107,7 @@ is_run past y h = elim (in_cases y (ended past) (lasting past) h) [
       subst (λ (z : Interval). IsRun past z) (sym e) (run_from_lasting past x j)
 ]
 
--- ## Each such interval is told
+-- ## Each true and maximal interval is reported
 
 same_interval : (y z : Interval) → y.flow ≡ z.flow → y.first ≡ z.first → y.end ≡ z.end → y ≡ z
 same_interval y z a b c = λ i. record { flow = a i; first = b i; end = c i }
@@ -177,7 +177,7 @@ is_among past y h = elim (is_told past y.first y.flow (h.throughout y.first h.so
   | inr t ↦ told_when_lasting past y h t.0 t.1
 ]
 
--- ## Both directions
+-- ## The two directions of the theorem
 
 maximal_from_run : (past : List (List OpenFlow)) (y : Interval) → IsRun past y → IsTrueAndMaximal (reverse past) y
 maximal_from_run past y h =
@@ -230,7 +230,7 @@ intervals_are_true_and_maximal moments y =
           (subst (λ (l : List (List OpenFlow)). IsTrueAndMaximal l y) (sym back) h))),
     )
 
--- ## Ticks
+-- ## The ticks of intervals
 
 -- If a flow is open in a moment, an interval of this flow contains the moment's tick.
 pub told_at : (moments : List (List OpenFlow)) (k : ℕ) (x : OpenFlow) → In x (get_or moments k []) →

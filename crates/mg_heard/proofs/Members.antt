@@ -69,7 +69,7 @@ from_flat_map f y (z ∷ xs) h = elim (in_cases y (f z) (flat_map f xs) h) [
   | inr k ↦ let (x, j, r) = from_flat_map f y xs k in (x, inr j, r)
 ]
 
--- ## The words of std
+-- ## Membership as `std` defines it
 
 pub in_at : {X : Type 0} (xs : List X) (k : ℕ) (d : X) → k < length xs → In (get_or xs k d) xs
 in_at [] k d h = absurd (omega arith)

@@ -126,7 +126,7 @@ distinct (flows ∷ older) h = (h flows (inl refl), distinct older (λ l i. h l 
 pub distinct_back : (moments : List (List OpenFlow)) → AllApart moments → AreDistinct (reverse moments)
 distinct_back moments h = distinct (reverse moments) (λ l i. h l (in_back l moments i))
 
--- ## Without RTP datagrams
+-- ## Moments without RTP datagrams
 
 same_flows : (a b : World) → AgreeExceptReceived a b → open_flows a.gateway ≡ open_flows b.gateway
 same_flows a b h = λ i. open_flows (record a.gateway { rooms = h.rooms i; edits = h.edits i })
@@ -159,7 +159,7 @@ moments_without agree a b (Tick ∷ events) moments h (sent, next, others, step,
       e ∙ ap (λ (l : List OpenFlow). l ∷ others) (same_flows a b h),
     )
 
--- ## There are moments
+-- ## Events have moments
 
 abbrev pub HasOutcome : Event → Type 0
 HasOutcome event = (w : World) → (sent : List Sent) × (next : World) × Step w event sent next
@@ -189,7 +189,7 @@ some_moments (event ∷ events) (suc n) long h w =
     let (others, are) = some_moments events n (omega arith) (λ k d below. h (suc k) d (omega arith)) next in
     (if_tick (is_tick event) w others, (sent, next, others, step, are, refl))
 
--- ## Without control datagrams
+-- ## Events other than control datagrams
 
 pub only_control_changes_flows : RtpChangesSpeechOnly → OnlyControlChangesFlows
 only_control_changes_flows agree w next (Control source bytes) sent none step = absurd (true≢false none)

@@ -65,7 +65,7 @@ no_more name lines i all = ap (keys_with name) (drop_all i lines all)
 
 -- ## Rules
 
--- If pushing a rule succeeds, the rule is the last one.
+-- If a rule is pushed without a fault, it is the last rule of the list.
 pub pushed : {E : Type 0} (r : Result (Unit {0}) E) (old new : List Rule) (rule : Rule) →
     new ≡ cond (is_ok r) (old ++ rule ∷ []) old → is_err r ≡ false → new ≡ old ++ rule ∷ []
 pushed (Ok done) old new rule e ok = e

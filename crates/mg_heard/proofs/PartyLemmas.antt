@@ -1,4 +1,4 @@
--- The description of a termination in an interval.
+-- The description of a termination in an interval is right.
 use Rattle.std.proofs.Common.{◌≡◌, Option, Some, sym, ap}
 use Rattle.std.specs.Option.{option_and_then, option_map, option_map_or}
 use Rattle.mg_rooms.specs.Registry.{record_at}

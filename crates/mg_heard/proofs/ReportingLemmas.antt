@@ -16,7 +16,7 @@ use Rattle.mg_heard.specs.Reported.{WritesReport}
 use Rattle.mg_heard.specs.aids.Reporting.{HasReported, Reported}
 use Rattle.mg_heard.specs.Times.{extent_of}
 use Rattle.mg_heard.specs.Told.{TellsAll}
-use Rattle.mg_heard.proofs.KeepingLemmas.{tells_weaker}
+use Rattle.mg_heard.proofs.KeptTickLemmas.{tells_weaker}
 
 -- If a call did not fail, its postcondition for success holds.
 pub if_done : {X E : Type 0} (result : Result (Unit {0}) E) → is_err result ≡ false → OnOk result X → X

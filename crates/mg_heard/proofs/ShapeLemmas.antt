@@ -1,4 +1,4 @@
--- The lines that the code writes piece by piece are the defined ones.
+-- The lines that the code writes piece by piece equal those in the definitions.
 use Rattle.std.proofs.Common.{◌≡◌, ◌⊎◌, ℕ, Bool, true, false, List, [], ◌∷◌, ◌++◌, Option, None, Some, inl, inr, refl, sym, ap, ◌∙◌, append_assoc, codes, decimal, length, ◌==◌, if◌then◌else◌}
 use Rattle.std.proofs.lemmas.List.{append-nil}
 use Rattle.std.specs.Prelude.{option_to_list}
@@ -23,7 +23,7 @@ use Rattle.mg_heard.specs.Names.{name_of}
 use Rattle.mg_heard.specs.Never.{violation_line}
 use Rattle.mg_heard.specs.aids.Shapes as shapes
 
--- ## Words
+-- ## Terminations
 
 at_same : (at : Option Peer) → shapes.at_text at ≡ lines.in_brackets (option_to_list (option_map peer_text at))
 at_same None = refl
@@ -162,7 +162,7 @@ plain_row : (k l p p' t q q' c f e e' d d' u u' n n' m m' : List ℕ) →
 unfolding plain
 plain_row k l p p' t q q' c f e e' d d' u u' n n' m m' = simp append_assoc
 
--- Further members, each after a comma, and an end.
+-- These members, each after a comma, and then `end`.
 after : List (List ℕ) → List ℕ → List ℕ
 after [] end = end
 after (x ∷ xs) end = 44 ∷ (x ++ after xs end)

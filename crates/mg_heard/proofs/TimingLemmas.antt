@@ -110,7 +110,7 @@ clock_date older line date end old new is ticks timeline at due first h =
       },
     )
 
--- The code finds the gap before a date.
+-- The gap that the code finds before a date is the gap of the comment with the date.
 pub gap_date : (older : List Note) (line : List ℕ) (date : Date) (first end : Moment) (agreement : Agreement) (old : Clock) →
     date_in line ≡ Some date → agreement ≡ agreement_of (next_tick old.timeline) date →
     first ≡ moment_after older → end ≡ moment_after (Comment line ∷ older) → IsClock older old →
@@ -158,7 +158,7 @@ clock_datagram older event clock h k = record {
   first = k.first ∙ first_event older event;
 }
 
--- The code finds the gap of a comment without a date, unless a call fails.
+-- Unless a call fails, the gap that the code finds for a comment without a date is the gap of the comment.
 pub gap_missed_if : {E : Type 0} (older : List Note) (line : List ℕ) (missed : Option ℕ) (new : Clock)
     (result : Result (Option Gap) E) → date_in line ≡ None → missed ≡ missed_in line →
     IfOk result (λ gap. gap ≡ option_map_or
@@ -224,7 +224,7 @@ before_next older m is = (
   ap (λ (m : Moment). m.date) is ∙ date_next older ∙ ap (date_of_tick older) (sym (ap (λ (m : Moment). m.tick) is)),
 )
 
--- ## What was told
+-- ## Reported moments
 
 pub gaps_in_both : (a b : List Entry) → gaps_in (a ++ b) ≡ gaps_in a ++ gaps_in b
 gaps_in_both [] b = refl
@@ -349,7 +349,7 @@ timed_intervals older tick told xs stored none each begun h = record {
       (All-weaker (λ x. IsBefore older tick x.first) (λ x. HasMoments (IsBefore older tick) (told x)) each stored begun));
 }
 
--- Reporting more entries with the right gaps and dates keeps `Timed`, unless the sink refuses an entry.
+-- After more entries with the right gaps and dates are reported, `Timed` holds, unless the sink refuses an entry.
 pub timed_on : {E : Type 0} (older next : List Note) (tick later : ℕ) (Told ToldNext : List Entry → Type 0)
     (more : List Entry) (result : Result (Unit {0}) E) →
     ((before : List Entry) → Told before → OnOk result (ToldNext (before ++ more))) →

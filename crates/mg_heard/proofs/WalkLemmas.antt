@@ -22,7 +22,7 @@ Rising xs = Pairs (λ x later. key_of x.flow < key_of later.flow) xs
 abbrev begun : Option OpenInterval → Option Moment
 begun o = option_map (λ x. x.first) o
 
--- A pair with another key is another pair.
+-- An interval whose pair has another key isn't an interval of this flow.
 pub other_key : (flow : OpenFlow) (x : OpenInterval) → (key_of x.flow ≡ key_of flow → ⊥) → IsOf flow x ≡ false
 other_key flow x h = false_from_ne_true (IsOf flow x) (λ e. h (ap key_of (sym ((same flow x.flow).0 e))))
 
@@ -61,7 +61,7 @@ none_here flow (y ∷ xs) (suc from) x rising within at h above e = passed_by fl
     (none_here flow xs from x rising.1 (omega arith) at
     (All-tail (λ x. key_of x.flow < key_of flow) y (take from xs) h) above e)
 
--- ## When it began
+-- ## When a flow began
 
 pub begun_nowhere : (flow : OpenFlow) (xs : List OpenInterval) (from : ℕ) → length xs ≤ from →
     AreBefore flow (take from xs) → None ≡ beginning_among xs flow

@@ -30,7 +30,8 @@ use Rattle.mg_heard.specs.Never.{IsKept, IsWatched, first_forbidden, is_forbidde
 use Rattle.mg_heard.specs.OpenFlows.{open_flows}
 use Rattle.mg_heard.specs.aids.Opening.{beginning_at, flows_of}
 use Rattle.mg_heard.specs.aids.Watching.{KeepsRules, forbidden_at, forbidden_in}
-use Rattle.mg_heard.proofs.KeepingLemmas.{back_to_front, events_in_both, events_with_ticks, extends, one_moment, same_reversed, split, tick_moments}
+use Rattle.mg_heard.proofs.KeepingLemmas.{events_in_both, events_with_ticks, extends, one_moment, split}
+use Rattle.mg_heard.proofs.KeptTickLemmas.{back_to_front, same_reversed, tick_moments}
 use Rattle.mg_heard.proofs.MomentLemmas.{OneOutcome}
 
 abbrev Found : Type 0
@@ -92,7 +93,7 @@ first_within rules from tick x [] is = absurd (cc is)
 first_within rules from tick x (flows ∷ xs) is =
     within_at rules from tick x xs (forbidden_in rules flows) is (λ e. first_within rules (from + 1) tick x xs e)
 
--- ## What was found before, or now
+-- ## Violations found before or now
 
 abbrev seen : Option Violation → Found
 seen o = option_map without_date o
@@ -161,14 +162,14 @@ watches_datagram one only rules config notes event tick next is_changed will_cha
           ap (forbidden_in rules) (only s.mid w event s.sent speech s.step ∙ sym e.is) ∙ h.same before none;
     }
 
--- The flows that count as open are those of the world.
+-- The open flows in `KeepsRules` are those of the world after the notes.
 pub watched_now : OneOutcome → (rules : List Rule) (config : Config) (notes : List Note) (tick : ℕ) (is_changed : Bool)
     (violation : Option Violation) (sent : List Sent) (w : World) → Run (start_of config) (events_in notes) sent w →
     (h : KeepsRules rules config notes tick is_changed violation) → h.now ≡ open_flows w.gateway
 watched_now one rules config notes tick is_changed violation sent w run h =
     (extends one (start_of config) w (events_in notes) [] sent h.now h.past (open_flows w.gateway ∷ []) run h.are refl).is
 
--- After the rules were compared with the open flows, the first violation is known up to this moment.
+-- After the rules are compared with the open flows, the watch has the first violation up to this moment.
 pub compared : OneOutcome → (rules : List Rule) (config : Config) (notes : List Note) (tick : ℕ) (is_changed : Bool)
     (old new : Option Violation) (sent : List Sent) (w : World) (others : List Rule) → others ≡ rules →
     Run (start_of config) (events_in notes) sent w → KeepsRules rules config notes tick is_changed old →
@@ -242,9 +243,9 @@ watches_no_tick rules config notes tick count is_changed violation none h =
     subst (λ (l : List Note). KeepsRules rules config l tick is_changed violation)
     (sym (append-nil notes) ∙ ap (λ (n : ℕ). notes ++ ticks_of n) (sym none)) h
 
--- ## The end
+-- ## The end of a script
 
--- A violation that was found before remains the one that is found.
+-- If a violation was found before, it remains the first violation, and its tick is before `k`.
 found_before : (old new : Option Violation) (later : Found) (k : ℕ) → is_some old ≡ true →
     seen new ≡ option_or (seen old) later → ((tick : ℕ) (x : OpenFlow) → seen old ≡ Some (tick, x) → tick < k) →
     IsSomeAnd new (λ v. v.at.tick + 1 < suc k)
@@ -283,7 +284,7 @@ is_kept view Also rules config text g =
       none = sym (nothing_found (view g.follower).violation g.undone ∙ k.first);
     }
 
--- A follower contains a watch, and also knows who is missing.
+-- A script was watched if it was followed by a follower that contains a watch and also knows who is missing.
 pub is_watched : {F : Type 0} (last : F) (view : F → Watch) (Also : F → List Note → Type 0) → OneOutcome →
     (rules : List Rule) (config : Config) (input rest : Option (List ℕ)) (state : CoreState) (new : Option Violation)
     (missing : List Missing) → IsFollowedUntil config input rest state (λ (f : F). is_some (view f).violation)

@@ -16,15 +16,15 @@ use Rattle.mg_heard.specs.declared.rule.Rule.{Rule}
 use Rattle.mg_heard.specs.Names.{keys_with, name_in}
 use Rattle.mg_heard.specs.Query.{party_name_of}
 
--- ## Texts
+-- ## Keys, names and rules as text
 
--- The key or name in a text. Names are allowed only if `has_names` is set.
+-- The key or name that `text` gives. Names are allowed only if `has_names` is set.
 abbrev pub asked_by : (has_names : Bool) → List ℕ → Option Asked
 asked_by has_names text =
     option_or (option_map Key (party_name_of text))
     (if has_names then option_map Name (name_in text) else None)
 
--- The texts before and after the arrow ` -> `. The first `>` of the text must belong to the arrow.
+-- The parts of `text` before and after the arrow ` -> `. The first `>` must belong to the arrow.
 abbrev pub around_arrow : List ℕ → Option (List ℕ × List ℕ)
 around_arrow text = do
   parts ← cut 62 text
@@ -37,7 +37,7 @@ abbrev pub pattern_by : (has_names : Bool) → List ℕ → Option (Option Asked
 pattern_by has_names text =
     if bytes_eq text (codes "*") then Some None else option_map Some (asked_by has_names text)
 
--- The rule in a text that consists of a talker, an arrow and a listener.
+-- The rule that `text` states: a talker, an arrow and a listener.
 abbrev pub rule_by : (has_names : Bool) → List ℕ → Option AskedRule
 rule_by has_names text = do
   parts ← around_arrow text
@@ -47,8 +47,8 @@ rule_by has_names text = do
 
 -- ## Terminations
 
--- The keys that a question is about, given the lines of a file of names. A question by name is about the keys of all
--- lines with this name, and at least one line must have it.
+-- The keys that a question is about, given the lines of a file of names. A question with a name is about the keys of
+-- all lines with this name, and there must be at least one such line.
 abbrev pub AreKeys : List Named → Option Asked → Option (List PartyName) → Type 0
 AreKeys lines None keys = keys ≡ None
 AreKeys lines (Some (Key key)) keys = keys ≡ Some (key ∷ [])

@@ -16,15 +16,16 @@ abbrev pub has_asked : Option (List PartyName) → Gateway → Bool
 has_asked keys w = list_any (λ r. is_asked keys r.number
     (option_map (λ c. record { address = c.address; port = c.port }) r.remote)) w.rooms.terminations
 
--- After some of these events, from the first event on, the gateway has such a termination.
+-- At some point during these events, the gateway has such a termination.
 abbrev pub HasCome : Config → List Event → Option (List PartyName) → Type 0
 HasCome config events keys = (past : List Event) × (future : List Event) × (sent : List Sent) × (w : World)
     × (events ≡ past ++ future) × Run (start_of config) past sent w × (has_asked keys w.gateway ≡ true)
 
--- A listener or a talker is missing if keys name it, and the gateway has none of these terminations at any time.
+-- Whether a talker or a listener is missing: keys name it, but the gateway never has a termination to which a key
+-- applies.
 abbrev pub IsMissing : Config → List Event → Option (List PartyName) → Bool → Type 0
 IsMissing config events keys m = m ≡ true ↔ (is_some keys ≡ true) × ¬ HasCome config events keys
 
--- The answer, unless a talker or a listener is missing.
+-- The answer, or `unknown` if a talker or a listener is missing.
 abbrev pub unless_missing : {A : Type 0} → (unknown : A) → Missing → (answer : A) → A
 unless_missing unknown missing answer = if missing.talker || missing.listener then unknown else answer

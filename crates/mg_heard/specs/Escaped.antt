@@ -1,4 +1,4 @@
--- How texts are escaped in a page (HTML).
+-- How text is escaped in a page (HTML).
 use Rattle.std.specs.Prelude.{ℕ, ◌==◌, ◌||◌, nat_lt, List, [], ◌∷◌, codes, if◌then◌else◌}
 use Rattle.std.specs.List.{flat_map}
 

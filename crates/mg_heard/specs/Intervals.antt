@@ -22,11 +22,11 @@ abbrev pub newest : List (List OpenFlow) → List OpenFlow
 newest [] = []
 newest (flows ∷ older) = flows
 
--- The interval, with this end, of a flow that is open in the newest moment.
+-- The interval with this end, for a flow that is open in the newest moment.
 abbrev pub interval_of : List (List OpenFlow) → Option ℕ → OpenFlow → Interval
 interval_of moments end x = record { flow = x; first = since moments x; end = end }
 
--- The intervals that end at the next moment: their flows are open in the newest moment, but not in the next.
+-- The intervals that end at the next moment: their flows are open in the newest moment, but not in the next one.
 abbrev pub ending : List (List OpenFlow) → List OpenFlow → List Interval
 ending moments next =
     map (interval_of moments (Some (length moments)))

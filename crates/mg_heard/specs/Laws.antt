@@ -27,7 +27,7 @@ EventsDetermineIntervals =
     (config : Config) (events : List Event) (xs ys : List Interval)
     → AreIntervals config events xs → AreIntervals config events ys → xs ≡ ys
 
--- ## Each tick
+-- ## The intervals at each tick
 
 -- Nothing happens before the next tick: the first of these events is a tick, or there are no events.
 abbrev pub IsAtTick : List Event → Type 0
@@ -59,7 +59,7 @@ IntervalsTellTheTruth =
     → LiesIn (count_by is_tick past) y
     → y.flow ≡ open_flow w.gateway y.flow.listener y.flow.talker
 
--- ## Each pair
+-- ## No pair is reported twice
 
 -- No two intervals of the same listener and talker contain the same tick.
 abbrev pub NoPairIsToldTwice : Type 0
@@ -67,7 +67,7 @@ NoPairIsToldTwice =
     (config : Config) (events : List Event) (ys : List Interval) → IsStart config
     → AreIntervals config events ys → AllPairs IsTellingOnce ys
 
--- ## Without speech
+-- ## Scripts without speech
 
 -- A journal and a full recording of the same gateway have the same intervals. (`without_rtp` drops
 -- the RTP datagrams.)

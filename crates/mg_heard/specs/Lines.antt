@@ -25,14 +25,14 @@ use Rattle.mg_heard.specs.declared.verdict.Verdict.TheVariants.{CouldHear, Could
 use Rattle.mg_heard.specs.Escaped.{escaped}
 use Rattle.mg_heard.specs.Names.{name_of}
 
--- ## Words
+-- ## Terminations and moments
 
--- The texts in brackets, or nothing if there are none.
+-- The strings in brackets, or nothing if the list is empty.
 abbrev pub in_brackets : List (List ℕ) → List ℕ
 in_brackets [] = []
 in_brackets (x ∷ xs) = codes " (" ++ (join_by (λ text. text) (codes ", ") (x ∷ xs) ++ codes ")")
 
--- The text for a termination, with its name and its Remote if it has them.
+-- The text for a termination: its number and, if it has them, its name and its Remote.
 abbrev pub party_text : (shown : List ℕ → List ℕ) → List Named → ℕ → Option Peer → List ℕ
 party_text shown names n at =
     let name = name_of names n at in
@@ -40,7 +40,7 @@ party_text shown names n at =
     if length name == 0 then rtp_name n ++ in_brackets remote
     else shown name ++ in_brackets (rtp_name n ∷ remote)
 
--- A tick, with its time if the time is known.
+-- A tick and, if it is known, the tick's time.
 abbrev pub moment_text : List ℕ → ℕ → Option Date → List ℕ
 moment_text time tick None = codes "tick " ++ decimal tick
 moment_text time tick (Some date) = time ++ (codes " (tick " ++ (decimal tick ++ codes ")"))
@@ -50,7 +50,7 @@ end_text time end = option_map_or (λ m. moment_text time m.tick m.date) end (co
 
 -- ## Sentences
 
--- A text such as "RTP/1 could hear RTP/2 in context 3", with this verb.
+-- A clause such as "RTP/1 could hear RTP/2 in context 3", with this verb.
 abbrev pub flow_text : (verb : List ℕ) → List Named → OpenFlow → List ℕ
 flow_text verb names x = concat (
     party_text (λ name. name) names x.listener x.listener_at ∷ verb
@@ -71,8 +71,8 @@ flow_cells names x = concat (
     ∷ codes "</th><td>" ∷ party_text escaped names x.talker x.talker_at
     ∷ codes "</td><td>" ∷ decimal x.context ∷ codes "</td>" ∷ [])
 
--- A row of a table: its class, the ticks from which the page draws the bar, the first cells, and then the cells for the
--- beginning, the end and the bar. Without an end, the bar ends with the timeline.
+-- A row of a table. Its tag has the class, and the ticks from which the page draws the bar. After the first cells come
+-- those for the beginning, the end and the bar. Without an end, the bar ends with the timeline.
 abbrev pub table_row : (class cells from until : List ℕ) → Moment → Option Moment → List ℕ
 table_row class cells from until first end = concat (
     codes "<tr " ∷ class ∷ codes "style=\"--a:" ∷ decimal first.tick ∷ codes ";--b:"
@@ -82,14 +82,14 @@ table_row class cells from until first end = concat (
 
 -- ## Rows and objects
 
--- The text of a value in a row and in an object. An object leaves out a value whose second text is `None`.
+-- The text of a value in a row, and its text in an object. An object leaves out a value whose second text is `None`.
 abbrev pub Value : Type 0
 Value = List ℕ × Option (List ℕ)
 
 abbrev pub in_quotes : List ℕ → List ℕ
 in_quotes text = codes "\"" ++ (text ++ codes "\"")
 
--- A text, which has quotes in an object.
+-- A string, which has quotes only in an object.
 abbrev pub word : List ℕ → Value
 word text = (text, Some (in_quotes text))
 
@@ -100,7 +100,7 @@ number n = (decimal n, Some (decimal n))
 abbrev pub unknown : Value
 unknown = ([], Some (codes "null"))
 
--- A name, which has quotes in a row too. Names contain no quotes.
+-- A name, which has quotes both in a row and in an object. Names contain no quotes.
 abbrev pub name_value : List ℕ → Value
 name_value name =
     if length name == 0 then unknown else (in_quotes name, Some (in_quotes name))
@@ -153,7 +153,7 @@ head_of Page =
     ++ codes "<th scope=\"col\">Timeline</th></tr></thead>\n<tbody>\n")
 head_of _ = []
 
--- A line in this format: the sentence, the row of a page, or the values.
+-- A line in this format: the sentence, the row of a page, or the values as a row or an object.
 abbrev pub line_in : Format → (sentence page_row : List ℕ) → List Value → List ℕ
 line_in Text sentence page_row values = sentence
 line_in Page sentence page_row values = page_row
@@ -186,14 +186,14 @@ line_of style from until (entries.Audible x) =
     interval_line style.format (codes " heard ") (codes "audible") from until style.names x
 line_of style from until (entries.Gap gap) = gap_line style.format from until gap
 
--- The line of an entry, with some texts for its dates.
+-- The line of an entry, with some text for each of the entry's dates.
 abbrev pub IsLine : Style → Entry → List ℕ → Type 0
 IsLine style entry line =
     (from : List ℕ) × (until : List ℕ) × (line ≡ line_of style from until entry)
 
 -- ## Answers about a given time
 
--- An answer without an interval: a sentence, or a row or an object that has only a kind.
+-- An answer without an interval. It is a sentence, or else a row or an object that has only a kind.
 abbrev pub answer_line : Format → (sentence kind : List ℕ) → List ℕ
 answer_line format sentence kind = line_in format sentence sentence (word kind ∷ left_out 11)
 

@@ -1,4 +1,4 @@
--- The names of terminations. A file of names has a line for each key, with a name.
+-- The names of terminations. Each line of a file of names gives a name to a key.
 use Rattle.std.specs.Prelude.{ℕ, ◌==◌, ◌&&◌, not, Bool, nat_le, nat_lt, List, [], length, filter, find, map}
 use Rattle.std.specs.Prelude.{Option, Some, None, if◌then◌else◌}
 use Rattle.std.specs.List.{list_all}
@@ -9,19 +9,18 @@ use Rattle.mg_heard.specs.declared.named.Named.{Named}
 use Rattle.mg_heard.specs.declared.party_name.PartyName.{PartyName}
 use Rattle.mg_heard.specs.Query.{is_named}
 
--- Whether a byte can be part of a name: it is no ASCII control character, and neither `"` nor `\`.
+-- Whether a byte can be part of a name: any byte except ASCII control characters, `"` and `\`.
 abbrev pub is_plain : ℕ → Bool
 is_plain b = nat_le 32 b && (not (b == 127) && (not (b == 34) && not (b == 92)))
 
--- The text as a name, or `None` unless the text has 1 to 64 bytes that can all be part of a name.
+-- `text`, or `None` if it is not a name. A name has 1 to 64 bytes, and each byte can be part of a name.
 abbrev pub name_in : List ℕ → Option (List ℕ)
 name_in text =
     if length text == 0 then None
     else (if nat_lt 64 (length text) then None
     else (if list_all is_plain text then Some text else None))
 
--- The name of a termination: that of the first line whose key applies to the termination, or an empty text if there is
--- no such line.
+-- The name of a termination, from the first line whose key applies to it. If there is no such line, the name is empty.
 abbrev pub name_of : List Named → ℕ → Option Peer → List ℕ
 name_of lines number at =
     option_map_or (λ x. x.name) (find (λ x. is_named x.key number at) lines) []

@@ -73,8 +73,8 @@ pub record IsWatched (rules : List Rule) (config : Config) (input rest : Option 
 
 -- ## The line
 
--- The line for a violation, with this text for its date: a sentence, or the row or object of an interval whose end is
--- not known.
+-- The line for a violation, with this text for its date. It is a sentence, or else a row or an object of an interval
+-- whose end is not known.
 unfoldable pub violation_line : Format → List ℕ → List Named → Violation → List ℕ
 violation_line format time names v =
     let sentence = flow_text (codes " could hear ") names v.flow

@@ -13,7 +13,7 @@ remote_of w n = option_and_then
     (λ r. option_map (λ c. record { address = c.address; port = c.port }) r.remote)
     (record_at w.rooms n)
 
--- The flow from a talker to a listener, with the data of this gateway.
+-- The flow from a talker to a listener, with the context and the Remotes that they have in this gateway.
 abbrev pub open_flow : Gateway → ℕ → ℕ → OpenFlow
 open_flow w listener talker = record {
   listener = listener;

@@ -19,7 +19,7 @@ use Rattle.mg_heard.specs.declared.party_name.PartyName.{PartyName}
 use Rattle.mg_heard.specs.declared.party_name.PartyName.TheVariants.{Termination, Address, Remote}
 use Rattle.mg_heard.specs.declared.query.Query.{Query}
 
--- The key in a text: `RTP/7`, an address and a port, or an address.
+-- The key that `text` gives: `RTP/7`, an address and a port, or an address.
 abbrev pub party_name_of : List ℕ → Option PartyName
 party_name_of text =
     if starts_with nat_eq text (codes "RTP/") then option_map Termination (number_of (drop 4 text))
@@ -42,8 +42,8 @@ is_named (Remote remote) number at = option_map_or (λ peer. is_same_peer peer r
 abbrev pub is_asked : Option (List PartyName) → ℕ → Option Peer → Bool
 is_asked keys number at = option_map_or (list_any (λ k. is_named k number at)) keys true
 
--- Whether the moment is before the time. `is_past` is also true at the time itself, and `is_future` is true after the
--- time. For a moment without a date, the result is `unknown`.
+-- The next three definitions compare a moment with a time: it is before the time, before or at it, or after it. For a
+-- moment without a date, the result is `unknown`.
 abbrev pub is_before : (unknown : Bool) → Moment → Date → Bool
 is_before unknown m time = option_map_or (λ date. nat_lt date.millis time.millis) m.date unknown
 
@@ -66,7 +66,7 @@ selects q x =
     && (is_asked q.talker x.flow.talker x.flow.talker_at && may_overlap q x.first x.end)
 
 -- Whether the interval contains a time that the script covers. Moments without a date precede the script's first date.
--- An interval without an end lasts.
+-- An interval without an end contains all times from its beginning on.
 abbrev pub covers : Interval → Date → Bool
 covers x time =
     is_past true x.first time && option_map_or (λ end. is_future false end time) x.end true

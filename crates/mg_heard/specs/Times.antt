@@ -41,7 +41,7 @@ missed_in line =
     && bytes_eq (drop (length rest - 6) rest) (codes " ticks")
     then decimal_of 20 18446744073709551615 (take (length rest - 6) rest) else None
 
--- The period between two moments if `b` is true, and no gap otherwise.
+-- The gap between two moments if `b` is true; otherwise none.
 abbrev pub gap_if : Bool → (first end : Moment) → Option Gap
 gap_if b first end = if b then Some (record { first = first; end = end; fence = None }) else None
 
@@ -55,11 +55,12 @@ date_gap date line older =
     gap_if (is_jump (agreement_of (next_tick (timeline_of older)) date))
     (moment_after older) (moment_after (Comment line ∷ older))
 
--- The moment at which an operator set the fence to this number, as a gap.
+-- The moment at which an operator set the fence to this number, represented as a gap.
 abbrev pub fence_gap : Moment → ℕ → Gap
 fence_gap m number = record { first = m; end = m; fence = Some number }
 
--- The gap of a comment: the clock jumped ahead before a date, the ticks that follow were missed, or the fence was set.
+-- The gap of a comment, if it has one. Either the clock jumped ahead before a date, or the ticks that follow were
+-- missed, or the fence was set.
 abbrev pub gap_of : List ℕ → List Note → Option Gap
 gap_of line older = option_map_or (λ date. date_gap date line older) (date_in line) (option_map_or
     (λ count. gap_if (nat_lt 0 count) (moment_after older) (moment_after (ticks_of count ++ older)))

@@ -31,8 +31,8 @@ is_within extent time =
     option_map_or (λ first. is_past false first time) extent.first false
     && is_future false extent.end time
 
--- The answer, given the interval and the gap that contain the time, if any. The script doesn't say
--- who could hear whom in a gap, or outside the time that it covers.
+-- The answer, given the gap and the interval that contain the time, or `None` for either. The script doesn't say who
+-- could hear whom in a gap, or outside the time that it covers.
 abbrev pub verdict_of : (is_within : Bool) → Option Gap → Option Interval → Verdict
 verdict_of is_within gap heard =
     if is_some gap || not is_within then Unknown else option_map_or CouldHear heard CouldNotHear

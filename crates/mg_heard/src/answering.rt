@@ -18,8 +18,8 @@ use mg_dates::Date;
 use std::alloc::Global;
 use std::io::Read;
 
-/// Runs a script, and answers whether a listener could hear a talker at a given time, for the listeners and talkers
-/// that `query` selects. Also returns which of them the gateway never had.
+/// Runs a script, and answers whether a listener could hear a talker at a given time. `query` selects the listeners and
+/// the talkers. Also returns whether the gateway never had such a talker or such a listener.
 pub fn hear_at<R: Read>(
     alloc: Global,
     config: Config,

@@ -14,7 +14,7 @@ pub enum Asked {
 }
 
 impl Asked {
-    /// Parses a key or, if `has_names` is set, a name. Returns `None` if the text is neither.
+    /// Parses a key or, if `has_names` is set, a name. Returns `None` if `text` is neither.
     pub fn of(text: &[u8], has_names: bool) -> Option<Asked>
         ensures value { result ≡ asked_by has_names text.now }
     {

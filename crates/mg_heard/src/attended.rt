@@ -19,8 +19,8 @@ impl<F: Follower + Drop> Follower for Attended<F> {
     ghost follows = { λ start a config notes. F.follows start.follower a.follower config notes
         × AreCalled config (events_in notes) start.rolls.items a.rolls.items };
 
-    fn comment(&mut self, line: &[u8]) -> Result<(), Stopped> {
-        self.follower.comment(line)
+    fn comment(&mut self, number: u64, line: &[u8]) -> Result<(), Stopped> {
+        self.follower.comment(number, line)
     }
 
     fn datagram(&mut self, event: &Event, core: &Core) -> Result<(), Stopped> {

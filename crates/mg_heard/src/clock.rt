@@ -100,8 +100,8 @@ impl Clock {
         Ok(())
     }
 
-    /// Updates the clock for the comment in the line with this number, if it has a date or a title. Returns the gap that
-    /// begins with the comment, if any.
+    /// Updates the clock if the comment in the line with this number has a date or a title. Returns the gap that begins
+    /// with the comment, if any.
     pub fn pass_comment(&mut self, number: u64, line: &[u8]) -> Result<Option<Gap>, ClockFault>
         ensures ticks { self.new.ticks ≡ self.old.ticks }
         ensures value { (older : List Note) → IsClock older self.old → IfOk result (λ gap.

@@ -7,7 +7,8 @@ use crate::moment::Moment;
 use crate::open_flow::OpenFlow;
 use crate::open_interval::OpenInterval;
 
-/// Gives each interval the beginning of the earlier interval of the same flow, if there is one.
+/// Lets each interval begin with the earlier interval of the same flow. An interval without an earlier one is
+/// unchanged.
 pub(crate) fn continue_each(intervals: &mut [OpenInterval], earlier: &[OpenInterval])
     ensures value { IsRising intervals.old → IsRising earlier.now →
         intervals.new ≡ map (continued earlier.now) intervals.old }

@@ -7,6 +7,6 @@ pub enum Entry {
     /// The listener could hear the talker.
     Interval(Interval),
     Gap(Gap),
-    /// The listener heard the talker: in each tick, the talker's speech changed what the listener was sent.
+    /// The listener heard the talker: in each tick, the talker's speech changed what the gateway sent to the listener.
     Audible(Interval),
 }

@@ -29,7 +29,7 @@ fn push_escape(byte: u8, out: &mut Bytes)
     }
 }
 
-/// Escapes a text and writes it to a page.
+/// Escapes text and writes it to a page.
 #[tactic(auto, using(crate::proofs::EscapedLemmas::steps))]
 pub(crate) fn push_escaped(text: &[u8], out: &mut Bytes)
     requires room { ESCAPE_LIMIT * length text.now ≤ out.old.room }

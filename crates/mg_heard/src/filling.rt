@@ -57,7 +57,8 @@ pub(crate) fn push_flows(
     count
 }
 
-/// Stores an interval at a place, if there is such a place. Returns the next place.
+/// Stores an interval at a place, and returns the next place. If there is no such place, stores nothing and returns
+/// `place`.
 fn put(places: &mut [OpenInterval], place: usize, interval: OpenInterval) -> usize
     requires within { place ≤ length places.old }
     ensures within { result ≤ length places.old }

@@ -25,7 +25,7 @@ use std::alloc::Global;
 use std::io::Read;
 
 /// Runs a script, and reports to a sink who could hear whom, as a series of intervals. Returns the sink, the time that
-/// the script covers, and who was missing from a new roll.
+/// the script covers, and who is missing. `roll` must be new.
 ///
 /// An interval is reported when it ends, so the memory needed does not grow with the script. No packets are sent.
 pub fn hear<R: Read, S: Sink>(

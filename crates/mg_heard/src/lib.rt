@@ -9,10 +9,12 @@
 //!
 //! [`hear_at`] answers whether a talker could be heard at a given time. [`write_report`] writes a line for each
 //! interval that a query selects, and for each gap; [`write_answer`] writes the answer about a given time. All of them
-//! also return which of the terminations that the query names the gateway never had (`specs/Came.antt`).
+//! also return who is missing: a talker or a listener that the query names and the gateway never had
+//! (`specs/Came.antt`).
 //!
-//! A question may give the name of a listener or a talker. [`Names`] holds the lines of a file of names. It turns an
-//! [`AskedQuery`] into a [`Query`], which has keys in place of names, and lines show the names of terminations.
+//! A question may give the name of a listener or a talker. [`Names`] holds the lines of a file of names. With these
+//! lines, an [`AskedQuery`] becomes a [`Query`], which has keys in place of names. Reports also show the names of
+//! terminations.
 //!
 //! An interval contains a tick for a pair if and only if the talker's speech flows to the listener in the world before
 //! that tick (`specs/Laws.antt`). The intervals follow from the flows that are open before each tick

@@ -41,7 +41,7 @@ const NAME_LIMIT: usize = 4 + NUMBER_LIMIT;
 /// The maximum length of a peer, in bytes: an address, a colon and a port.
 const PEER_LIMIT: usize = 21;
 
-/// The maximum length, in bytes, of a name, and of a number and a peer in brackets.
+/// The maximum length, in bytes, of a termination in a sentence: a name, and a number and a peer in brackets.
 const PARTY_LIMIT: usize = 5 + NAME_ROOM + NAME_LIMIT + PEER_LIMIT;
 
 /// The maximum length, in bytes, of a termination on a page: a name with escapes, and a number and a peer in brackets.
@@ -142,7 +142,7 @@ fn push_comma(at: Option<Peer>, out: &mut Bytes)
     }
 }
 
-/// Writes a termination with this name, or without a name if the text is empty.
+/// Writes a termination with this name, or without a name if `name` is empty.
 #[tactic(auto, using(crate::proofs::LineLemmas::steps))]
 fn push_called(name: &[u8], number: u32, at: Option<Peer>, out: &mut Bytes)
     requires name { length name.now ≤ NAME_ROOM }
@@ -162,7 +162,7 @@ fn push_called(name: &[u8], number: u32, at: Option<Peer>, out: &mut Bytes)
     }
 }
 
-/// Writes a termination, with its name and its Remote if it has them.
+/// Writes a termination: its number and, if it has them, its name and its Remote.
 fn push_party(names: &Names, number: u32, at: Option<Peer>, out: &mut Bytes)
     requires room { PARTY_LIMIT ≤ out.old.room }
     ensures value { out.new ≡ appended out.old (called_party names.now number at) }
@@ -171,7 +171,7 @@ fn push_party(names: &Names, number: u32, at: Option<Peer>, out: &mut Bytes)
     push_called(names.name_of(number, at), number, at, out);
 }
 
-/// Writes a tick, and its time if the time is known.
+/// Writes a tick and, if it is known, the tick's time.
 #[tactic(auto, using(crate::proofs::LineLemmas::steps))]
 fn push_moment(time: &[u8], tick: u64, date: Option<Date>, out: &mut Bytes)
     requires time { length time.now ≤ TIME_LIMIT }
@@ -318,7 +318,7 @@ fn push_extent_columns(
     push_optional_time(until, date_of_end(end), out);
 }
 
-/// Writes a name in quotes, or nothing if the text is empty.
+/// Writes a name in quotes, or nothing if `name` is empty.
 #[tactic(auto, using(crate::proofs::LineLemmas::steps))]
 fn push_optional_name(name: &[u8], out: &mut Bytes)
     requires name { length name.now ≤ NAME_ROOM }
@@ -454,7 +454,7 @@ fn push_extent_members(
     push_time_value(until, date_of_end(end), out);
 }
 
-/// Writes a name as a string, or `null` if the text is empty.
+/// Writes a name as a string, or `null` if `name` is empty.
 #[tactic(auto, using(crate::proofs::LineLemmas::steps))]
 fn push_name_value(name: &[u8], out: &mut Bytes)
     requires name { length name.now ≤ NAME_ROOM }
@@ -563,7 +563,7 @@ fn push_extent_cells(from: &[u8], until: &[u8], first: Moment, end: Option<Momen
     out.push(b"</td><td><div></div></td></tr>\n");
 }
 
-/// Writes a termination with this name, or without a name if the text is empty, to a page.
+/// Writes a termination to a page, with this name, or without a name if `name` is empty.
 #[tactic(auto, using(crate::proofs::LineLemmas::steps))]
 fn push_shown(name: &[u8], number: u32, at: Option<Peer>, out: &mut Bytes)
     requires name { length name.now ≤ NAME_ROOM }
@@ -583,7 +583,7 @@ fn push_shown(name: &[u8], number: u32, at: Option<Peer>, out: &mut Bytes)
     }
 }
 
-/// Writes a termination, with its name and its Remote if it has them, to a page.
+/// Writes a termination to a page: its number and, if it has them, its name and its Remote.
 fn push_shown_party(names: &Names, number: u32, at: Option<Peer>, out: &mut Bytes)
     requires room { SHOWN_LIMIT ≤ out.old.room }
     ensures value { out.new ≡ appended out.old (shown_party names.now number at) }

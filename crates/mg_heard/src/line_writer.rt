@@ -52,7 +52,7 @@ fn dates_of(entry: &Entry) -> (Option<Date>, Option<Date>) {
     }
 }
 
-/// Returns the text of a date in a time zone, or an empty text if there is none.
+/// Returns the text of a date in a time zone, or an empty text if `date` is `None`.
 fn text_of(date: Option<Date>, zone: &Zone) -> TimeText {
     match date {
         Some(date) => zone.text(date),
@@ -60,7 +60,7 @@ fn text_of(date: Option<Date>, zone: &Zone) -> TimeText {
     }
 }
 
-/// Writes a text.
+/// Writes all bytes of `text`.
 fn write_text<W: Write>(text: &[u8], writer: &mut W) -> Result<(), Stopped>
     ensures value { OnOk result (Appends (W.contents writer.old) (W.contents writer.new) text.now) }
 {

@@ -37,10 +37,10 @@ impl ListenerRow {
         self.row.fill(hearers, listener, now);
     }
 
-    /// Replaces the listener and its intervals. An interval continues the earlier one of the same flow, if there is
-    /// one. Afterwards, `earlier` has the intervals that are not continued.
+    /// Replaces the listener and its intervals. An interval continues the earlier interval of the same flow, if the
+    /// flow has one. Afterwards, `earlier` has only the intervals that are not continued.
     ///
-    /// If `is_same` is set, the terminations are unchanged; only whose speech flows to whom may differ.
+    /// If `is_same` is set, the terminations are unchanged; only who hears whom may differ.
     pub(crate) fn advance(
         &mut self,
         earlier: &mut ListenerRow,

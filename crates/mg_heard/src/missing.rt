@@ -1,6 +1,6 @@
 ghost use Rattle.std.specs.Prelude.{◌≡◌, ◌||◌};
 
-/// Which of the talker and the listener that a question or a rule names the gateway never had as a termination.
+/// Whether the gateway never had the talker, or the listener, that a question or a rule names.
 #[derive(Clone, Copy, Debug, PartialEq, Eq)]
 pub struct Missing {
     pub talker: bool,
@@ -8,7 +8,7 @@ pub struct Missing {
 }
 
 impl Missing {
-    /// Returns whether one of them is missing.
+    /// Returns whether the talker or the listener is missing.
     pub fn is_any(self) -> bool
         ensures value { result ≡ (self.talker || self.listener) }
     {

@@ -73,7 +73,7 @@ impl OpenIntervals {
         ended.remove_continued(self);
     }
 
-    /// Replaces the stored intervals with one per flow, all beginning at this moment.
+    /// Replaces the stored intervals with one interval per flow, all beginning at this moment.
     fn replace(&mut self, flows: &[OpenFlow], first: Moment)
         requires few { length flows.now ≤ FLOWS }
         ensures value { self.new ≡ map (beginning_at first) flows.now }
@@ -90,7 +90,8 @@ impl OpenIntervals {
         self.len = fill_places(&mut self.places, core, first);
     }
 
-    /// Gives each interval the beginning of the earlier interval of the same flow, if there is one.
+    /// Lets each interval begin with the earlier interval of the same flow. An interval without an earlier one is
+    /// unchanged.
     fn continue_from(&mut self, earlier: &OpenIntervals)
         ensures value { IsRising self.old → IsRising earlier.now → self.new ≡ map (continued earlier.now) self.old }
     {
@@ -106,8 +107,8 @@ impl OpenIntervals {
     }
 }
 
-/// Gives each interval in the first `len` places the beginning of the earlier interval of the same flow, if there is
-/// one.
+/// Lets each interval in the first `len` places begin with the earlier interval of the same flow. An interval without
+/// an earlier one is unchanged.
 pub(crate) fn continue_front(places: &mut [OpenInterval], len: usize, earlier: &[OpenInterval])
     requires within { len ≤ length places.old }
     ensures value { IsRising (take len places.old) → IsRising earlier.now →
@@ -116,7 +117,7 @@ pub(crate) fn continue_front(places: &mut [OpenInterval], len: usize, earlier: &
     continue_each(&mut places[..len], earlier);
 }
 
-/// Keeps only those intervals in the first `len` places whose flows have no interval in `next`. Returns how many it
+/// Of the intervals in the first `len` places, keeps those whose flows have no interval in `next`. Returns how many it
 /// keeps.
 pub(crate) fn keep_front(places: &mut [OpenInterval], len: usize, next: &[OpenInterval]) -> usize
     requires within { len ≤ length places.old }

@@ -27,8 +27,8 @@ use mg_dates::Date;
 use std::alloc::Global;
 use std::io::{Read, Write};
 
-/// Reports who could hear whom while a script ran. Returns the report, the time that the script covers, and which
-/// terminations that the report's query names the gateway never had.
+/// Reports who could hear whom while a script ran. Returns the report, the time that the script covers, and who is
+/// missing. A talker or a listener is missing if the report's query names it and the gateway never had it.
 fn hear_report<'a, R: Read, W: Write>(
     alloc: Global,
     config: Config,
@@ -52,8 +52,9 @@ fn hear_report<'a, R: Read, W: Write>(
 }
 
 /// Writes who could hear whom while a script ran: a line for each interval that `query` selects, and for each gap. The
-/// line for an interval is written when the interval ends. Returns the ticks of these intervals, the time that the script
-/// covers, and which of the terminations that `query` names the gateway never had.
+/// line for an interval is written when the interval ends. Returns the range of ticks of these intervals, the time that
+/// the script covers, and who is missing. A talker or a listener is missing if `query` names it and the gateway never
+/// had it.
 pub fn write_report<R: Read, W: Write>(
     alloc: Global,
     config: Config,
@@ -104,9 +105,9 @@ fn write_verdict<W: Write>(
     }
 }
 
-/// Runs a script, and writes one line that answers whether a listener could hear a talker at a given time, for the
-/// listeners and talkers that `query` selects. The answer is not known if the gateway never had one of them. Returns the
-/// answer, and which of them it never had.
+/// Runs a script, and writes one line that answers whether a listener could hear a talker at a given time. `query`
+/// selects the listeners and the talkers. Returns the answer, and who is missing: a talker or a listener that `query`
+/// names and the gateway never had. If somebody is missing, the answer is not known.
 pub fn write_answer<R: Read, W: Write>(
     alloc: Global,
     config: Config,

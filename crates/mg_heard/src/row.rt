@@ -64,7 +64,8 @@ impl Row {
         self.len = push_flows(&mut self.places, 0, hearers, listener, first);
     }
 
-    /// Gives each interval the beginning of the earlier interval of the same flow, if there is one.
+    /// Lets each interval begin with the earlier interval of the same flow. An interval without an earlier one is
+    /// unchanged.
     pub(crate) fn continue_from(&mut self, earlier: &Row)
         ensures value { IsRising self.old → IsRising earlier.now → self.new ≡ map (continued earlier.now) self.old }
     {

@@ -42,7 +42,7 @@ pub fn intervals_tell_the_flow()
     mg_core::theorems::outcomes_are_unique();
 }
 
-/// The intervals are exactly the maximal ones throughout which a flow is open before each tick.
+/// The intervals are exactly the maximal periods in which a flow is open before each tick.
 pub fn intervals_are_true_and_maximal()
     ensures theorem { IntervalsAreTrueAndMaximal }
 {}

@@ -15,8 +15,8 @@ use mg_core::Config;
 use std::alloc::Global;
 use std::io::{Read, Write};
 
-/// Runs a script until a rule is broken, or to its end. Returns the first violation, or `None` if no rule was broken, and
-/// for each rule which of the terminations that it names the gateway never had.
+/// Runs a script until a rule is broken, or to its end. Returns the first violation, or `None` if no rule was broken.
+/// For each rule, also returns who is missing: a talker or a listener that the rule names and the gateway never had.
 ///
 /// A rule is broken if a flow that it forbids is open before a tick or at the script's end. All ticks that have arrived
 /// are checked before more of the script is read.
@@ -68,8 +68,9 @@ fn write_line<W: Write>(
     }
 }
 
-/// Runs a script until a rule is broken, or to its end, and writes a line for the violation, if any. Returns the
-/// violation, and for each rule which of the terminations that it names the gateway never had.
+/// Runs a script until a rule is broken, or to its end. If a rule was broken, writes a line for the violation. Returns
+/// the first violation, or `None`. For each rule, also returns who is missing: a talker or a listener that the rule
+/// names and the gateway never had.
 pub fn write_violation<R: Read, W: Write>(
     alloc: Global,
     config: Config,

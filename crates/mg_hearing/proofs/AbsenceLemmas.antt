@@ -23,7 +23,7 @@ pub receives_from : {E : Type 0} (contents : E → Option (List ℕ)) (old mid n
     Receives contents mid new text → Receives contents old new text
 receives_from contents old mid new text is h = subst (λ e. Receives contents e new text) is h
 
--- A report of who is missing keeps the status unless it fails.
+-- Unless the report of who is missing fails, what is true of the given status is true of the returned status.
 pub reported : (Heard : Status → Type 0) (given status : Status) (says : Type 0) → (says → Heard given) →
     UnlessFault ((status ≡ given) × says) status → UnlessFault (Heard status) status
 reported Heard given status says more (inl fault) = inl fault
@@ -42,7 +42,7 @@ absences_done name rules missing i (inl h) =
 absences_done name rules missing i (inr h) =
     at_drop_all (λ (l : List Missing). all_absences name (drop i rules) l) missing i h ∙ none_missing name (drop i rules)
 
--- The lines for one more rule move from the remaining lines to the text.
+-- Writing the lines for one more rule moves them from the remaining lines to the text.
 pub absences_more : (name : List ℕ) (rules : List AskedRule) (missing : List Missing) (i : ℕ) (r : AskedRule)
     (m : Missing) (before whole : List ℕ) → i < length rules → i < length missing → get_or rules i r ≡ r →
     get_or missing i m ≡ m → before ++ all_absences name (drop i rules) (drop i missing) ≡ whole →

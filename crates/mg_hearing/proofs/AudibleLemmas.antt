@@ -22,7 +22,8 @@ use Rattle.mg_hearing.specs.Heard.{IsAsked}
 use Rattle.mg_hearing.specs.declared.question.Question.{Question}
 use Rattle.mg_hearing.proofs.HeardLemmas.{read_all, titled}
 
--- If `front` is the title line and the rest of the script follows it, the whole script was read.
+-- If `front` is the title line and the rest of the script was followed to its end, the output is about the whole
+-- script.
 pub is_audible : (talker : ℕ) (asked : Question) (config : Config) (old mid rest : Option (List ℕ)) (front : List ℕ)
     (held written : Option (List ℕ)) (has_rtp : Bool) (silent : Type 0) (state : CoreState) → Consumes old mid front →
     front ≡ title_line config → (has_rtp ≡ true → silent) →

@@ -54,7 +54,7 @@ nil_right : (a b : List ℕ) → a ++ b ≡ [] → b ≡ []
 nil_right [] b h = h
 nil_right (x ∷ a) b h = absurd cc
 
--- If two readers in a row are at the end, the second reader is at its end.
+-- If a chain of two readers is at its end, the second reader is at its end.
 pub second_at_end : (first second : Option (List ℕ)) (is_done : Bool) (bytes : List ℕ) → first ≡ Some bytes →
     IsAtEnd (cond is_done second (option_append first second)) → IsAtEnd second
 second_at_end first second true bytes known h = h

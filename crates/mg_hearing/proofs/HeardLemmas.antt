@@ -70,7 +70,7 @@ title_is line text title (Some config) fed marked is =
     fed ∙ ap (λ (l : List ℕ). l ++ codes "\n") (marked ∙ ap (λ (l : List ℕ). codes "# " ++ l) is)
     ∙ append_assoc (codes "# ") (title_text config) (codes "\n")
 
--- ## What is printed
+-- ## The output
 
 pub prints_more : (config : Config) (input rest : Option (List ℕ)) (state : CoreState) (A : List Note → Type 0)
     (P Q : Extent → List Entry → Type 0) → ((extent : Extent) (xs : List Entry) → P extent xs → Q extent xs) →
@@ -122,7 +122,8 @@ prints_report asked at config input rest old new A missing status covered timed 
       subst (λ (t : Option Date). PrintsLines asked t old new missing status extent xs) (sym timed) (h.0, is)) h,
 )
 
--- If `front` is the title line and the rest of the script follows it, the whole script was read.
+-- If `front` is the title line and the rest of the script was followed to its end, the output is about the whole
+-- script.
 pub is_heard : (request : HeardRequest) (asked : Question) (config : Config) (old mid : Option (List ℕ)) (front : List ℕ)
     (held written : Option (List ℕ)) (Says : List ℕ → Type 0) (missing : Missing) (status : Status) →
     Consumes old mid front → front ≡ title_line config →

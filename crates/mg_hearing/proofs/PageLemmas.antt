@@ -1,4 +1,4 @@
--- Texts that are written in pieces, and the output as a page.
+-- Text that is written in pieces, and the output as a page.
 use Rattle.std.proofs.Common.{◌≡◌, ◌∙◌, ◌+◌, ◌<◌, ℕ, true, false, List, [], ◌∷◌, ◌++◌, None, Option, Result, Ok, Err, Some, ap, append_assoc, drop, get_or, length, refl, subst, sym}
 use Rattle.std.proofs.KnownBytes.{Appends-trans}
 use Rattle.std.proofs.lemmas.List.{at_drop_more}
@@ -77,7 +77,7 @@ filled [] (shown ∷ more) h = absurd h
 filled (part ∷ parts) [] h = absurd h
 filled (part ∷ parts) (shown ∷ more) h = (shown, filled_with parts more, h.0, filled parts more h.1, refl)
 
--- Filled parts followed by filled parts satisfy `IsFilled`.
+-- Filled parts, followed by more filled parts, satisfy `IsFilled`.
 filled_both : (parts more : List (List ℕ × Option (List ℕ))) (a b : List ℕ) → IsFilled parts a → IsFilled more b →
     IsFilled (parts ++ more) (a ++ b)
 filled_both [] more a b h k = subst (λ (t : List ℕ). IsFilled more (t ++ b)) (sym h) k

@@ -18,7 +18,7 @@ use Rattle.mg_hearing.specs.aids.Absences.{all_absences}
 use Rattle.mg_hearing.specs.Page.{script_name}
 use Rattle.mg_hearing.proofs.HeardLemmas.{read_all, titled}
 
--- If `front` is the title line and the rest of the script follows it, the whole script was watched.
+-- If `front` is the title line and the rest of the script was watched, the whole script was watched.
 pub is_answered : (request : WatchRequest) (alarm : Alarm) (config : Config) (old mid rest : Option (List ℕ))
     (front : List ℕ) (held written : Option (List ℕ)) (found : Option Violation) (missing : List Missing)
     (Says : List ℕ → Type 0) (status : Status) → Consumes old mid front → front ≡ title_line config →
@@ -52,7 +52,7 @@ is_answered request alarm config old mid rest front held written found missing S
   says = says;
 }
 
--- An answer by a request's alarm is an answer to the request.
+-- An answer for the alarm that a request sets is an answer to the request.
 pub answered_from : (request : WatchRequest) (alarm : Alarm) (before after : Option (List HostCall))
     (script input old new : Option (List ℕ)) (Says More : List ℕ → Type 0) (status : Status) → IsSet request alarm →
     ReadsFrom request.file before after input script → ((text : List ℕ) → Says text → More text) →

@@ -12,14 +12,14 @@ use Rattle.mg_host.specs.declared.host_call.HostCall.{HostCall}
 use Rattle.mg_host.specs.HostCalls.{ReadsFrom}
 
 -- A script was read, and the output is about all intervals in which the talker is audible. If the script has an RTP
--- datagram, no error is printed.
+-- datagram, `silent` holds, which says that no error is printed.
 abbrev pub IsAudible : (talker : ℕ) → Question → (script old new : Option (List ℕ))
     → (silent : Type 0) → Type 0
 IsAudible talker asked script old new silent = IsRead script (λ config notes.
     TellsAudible config talker notes (WritesReport asked.style asked.query old new)
     × (list_any is_media (events_in notes) ≡ true → silent))
 
--- The output about a talker in the script of a file, or of the input.
+-- The output about a talker, for the script in a file or in the input.
 abbrev pub IsAudibleFrom : AudibleRequest → (before after : Option (List HostCall))
     → (input old new : Option (List ℕ)) → (silent : Type 0) → Type 0
 IsAudibleFrom request before after input old new silent =

@@ -37,9 +37,9 @@ status_for (CouldHear x) = Done
 status_for verdicts.CouldNotHear = CouldNotHear
 status_for verdicts.Unknown = Unknown
 
--- The output about the intervals and gaps of a script, and about the time that the script covers. It is a page or,
--- without a time, a line for each selected interval and gap. For a given time, the output is the line of the answer,
--- and the status agrees with the answer, which is not known if a listener or a talker is missing.
+-- The output about the intervals and gaps of a script, and about the time that the script covers. In the format `Page`,
+-- it is a page. In the other formats, it is a line for each selected interval and gap or, for a given time, the line of
+-- the answer. The status agrees with the output. If a listener or a talker is missing, the answer is not known.
 abbrev pub Prints : Format → Option Date → HeardRequest → Question
     → (script old new : Option (List ℕ)) → Missing → Status → Extent → List Entry → Type 0
 Prints formats.Page at request asked script old new missing status extent xs =
@@ -59,8 +59,8 @@ pub record IsRead (script : Option (List ℕ)) (Told : Config → List Note → 
   pub state : CoreState
   pub prints : IsFollowed config script rest state (Told config)
 
--- A script was read, and the output is about all its intervals. The errors say exactly which of the terminations that
--- the question names the gateway never had.
+-- A script was read, and the output is about all its intervals. The errors say exactly whether the question's talker
+-- and listener are missing: the gateway never had them.
 abbrev pub IsHeard : HeardRequest → Question → (script old new : Option (List ℕ))
     → (Says : List ℕ → Type 0) → Status → Type 0
 IsHeard request asked script old new Says status = IsRead script (λ config notes. (missing : Missing)
@@ -69,20 +69,20 @@ IsHeard request asked script old new Says status = IsRead script (λ config note
     × Says (absences (script_name request.file) request.query.talker request.query.listener missing)
     × TellsAll config notes (Prints asked.style.format asked.at request asked script old new missing status))
 
--- The style of an answer agrees with the request: it has the requested format, and without a file of names, nothing has
--- a name. (No contract says what a file contains, or which time zones the system has.)
+-- The style of an answer agrees with the request. The style has the requested format, and if there is no file of names,
+-- no termination has a name. (No contract says what a file contains, or which time zones the system has.)
 pub record IsStyle (printing : Printing) (style : Style) : Type 0 where
   pub format : style.format ≡ printing.format
   pub names : printing.names ≡ None → style.names ≡ []
 
--- The question that a request asks. Its query is about the terminations with the names in the request, and the file of
+-- The question that a request asks. Its query is about the terminations that have the names in the request. The file of
 -- names has all these names.
 pub record IsAsked (request : HeardRequest) (asked : Question) : Type 0 where
   pub style : IsStyle request.printing asked.style
   pub query : IsQuery asked.style.names request.query asked.query
   pub at : asked.at ≡ request.at
 
--- The output about the script in a file, or in the input.
+-- The output for the script in a file or in the input.
 abbrev pub IsHeardFrom : HeardRequest → (before after : Option (List HostCall))
     → (input old new : Option (List ℕ)) → (Says : List ℕ → Type 0) → Status → Type 0
 IsHeardFrom request before after input old new Says status =

@@ -1,5 +1,5 @@
--- The page (HTML) that `mg_bridge heard --report` prints: fixed parts, which are constants of the
--- program, and between them escaped texts and the rows of a table.
+-- The page (HTML) that `mg_bridge heard --report` prints. Its fixed parts are constants of the program. Between them
+-- are escaped texts and the rows of a table.
 use Rattle.std.specs.Prelude.{◌≡◌, ℕ, ◌==◌, List, [], ◌∷◌, ◌++◌}
 use Rattle.std.specs.Prelude.{Option, Some, None, codes, filter, unwrap_or, IfSome, if◌then◌else◌}
 use Rattle.std.specs.Io.KnownBytes.{Appends}
@@ -19,14 +19,14 @@ use Rattle.mg_hearing.specs.declared.page_text.TheConstants.{UNTIL, ANSWER, TABL
 use Rattle.mg_hearing.specs.declared.page_text.TheConstants.{SOURCE, SIZE, HASH, TIME}
 use Rattle.mg_hearing.specs.declared.page_text.TheConstants.{PROGRAM, PROGRAM_HASH, COMMAND, TRUST}
 
--- ## Texts
+-- ## Words of a command line
 
--- A byte within single quotes on a command line. A quote ends the quoted text, appears escaped, and starts a new quoted
--- text.
+-- A byte within single quotes on a command line. A single quote is written as the end of the quoted string, an escaped
+-- quote and the start of another quoted string.
 abbrev pub quoted_byte : ℕ → List ℕ
 quoted_byte b = if b == 39 then codes "'\\''" else b ∷ []
 
--- A text as one word of a command line.
+-- `text` as one word of a command line.
 abbrev pub quoted : List ℕ → List ℕ
 quoted text = codes "'" ++ (flat_map quoted_byte text ++ codes "'")
 
@@ -43,7 +43,8 @@ script_name file = unwrap_or file (codes "standard input")
 
 -- ## The page
 
--- A part of a page: fixed texts, each followed by an escaped text. The escaped text is the given one, or any text.
+-- A part of a page: fixed texts, each followed by an escaped text. If a part gives no text to escape, the escaped text
+-- can be any text.
 abbrev pub IsFilled : List (List ℕ × Option (List ℕ)) → List ℕ → Type 0
 IsFilled [] text = text ≡ []
 IsFilled (part ∷ parts) text =
@@ -58,12 +59,12 @@ front_parts request =
     ∷ (TALKER.now, Some (party_word request.query.talker)) ∷ (FROM.now, None) ∷ (UNTIL.now, None)
     ∷ (ANSWER.now, Some []) ∷ []
 
--- The end of a command about a file, or about the input, which has no name.
+-- The end of a command: the quoted name of a file, or a placeholder for the input, which has no name.
 abbrev pub last_words : Option (List ℕ) → List ℕ
 last_words None = codes " < FILE"
 last_words (Some name) = codes " -- " ++ quoted name
 
--- The end of a page: the end of the table with the timeline's scale, the script with this digest, the program that
+-- The end of a page. It states the timeline's scale after the table, the script with this digest, the program that
 -- wrote the page, and the command that makes the page.
 abbrev pub back_parts : (file : Option (List ℕ)) → (digest : List ℕ)
     → List (List ℕ × Option (List ℕ))
@@ -73,12 +74,12 @@ back_parts file digest =
     ∷ (TIME.now, None) ∷ (PROGRAM.now, None) ∷ (PROGRAM_HASH.now, None) ∷ (COMMAND.now, None)
     ∷ ([], Some (last_words file)) ∷ (TRUST.now, Some []) ∷ []
 
--- The SHA-256 of a text, in lower-case hexadecimal digits, if the text is known.
+-- If the text is known, these are the lower-case hexadecimal digits of its SHA-256.
 abbrev pub IsDigest : Option (List ℕ) → List ℕ → Type 0
 IsDigest text digest = IfSome text (λ t. digest ≡ encode_lower (sha256 t))
 
--- A writer has received a page with a row for each of these entries that the query selects, and with the script's
--- digest. (No contract says that the timeline's scale, the times, the program's hash and the options are right.)
+-- A writer has received a page with a row for each entry that the query selects, and with the script's digest. (No
+-- contract says that the timeline's scale, the times, the program's hash and the options are correct.)
 abbrev pub WritesPage : HeardRequest → Question → (script old new : Option (List ℕ)) → List Entry
     → Type 0
 WritesPage request asked script old new xs =

@@ -25,7 +25,8 @@ status_for (Some v) = RuleBroken
 
 -- A script begins with the title of the configuration with which it is run. The script was read to its end, or until
 -- one of the rules was broken. Only the first violation is printed, and the status says whether there is a violation.
--- If there is none, the errors say exactly which of the terminations that the rules name the gateway never had.
+-- If there is none, the errors say exactly which talkers and listeners of the rules are missing: the gateway never had
+-- them.
 pub record IsAnswered (request : WatchRequest) (alarm : Alarm) (script old new : Option (List ℕ))
     (Says : List ℕ → Type 0) (status : Status) : Type 0 where
   pub config : Config
@@ -39,13 +40,13 @@ pub record IsAnswered (request : WatchRequest) (alarm : Alarm) (script old new :
   pub says : Says (if is_some found then [] else flat_map (λ p.
       absences (script_name request.file) p.0.talker p.0.listener p.1) (zip request.rules missing))
 
--- The alarm that a request sets. Its rules are about the terminations with the names in the request, and the file of
+-- The alarm that a request sets. Its rules are about the terminations that have the names in the request. The file of
 -- names has all these names.
 pub record IsSet (request : WatchRequest) (alarm : Alarm) : Type 0 where
   pub style : IsStyle request.printing alarm.style
   pub rules : AllZip (IsRule alarm.style.names) request.rules alarm.rules.items
 
--- The answer about the script in a file, or in the input.
+-- The answer for the script in a file or in the input.
 abbrev pub IsAnsweredFrom : WatchRequest → (before after : Option (List HostCall))
     → (input old new : Option (List ℕ)) → (Says : List ℕ → Type 0) → Status → Type 0
 IsAnsweredFrom request before after input old new Says status =

@@ -50,7 +50,7 @@ fn push_all(
     Ok(())
 }
 
-/// Writes a report, if it isn't empty. If that fails, returns the exit status.
+/// Writes a report unless it is empty. If the write fails, returns the exit status.
 fn write_lines<E: Write>(text: &[u8], errors: &mut E) -> Result<(), Status>
     ensures value { OnOk result (Receives E.contents errors.old errors.new text.now) }
     ensures ends { IfErr result (λ status. status ≡ Status.Failed) }
@@ -64,7 +64,7 @@ fn write_lines<E: Write>(text: &[u8], errors: &mut E) -> Result<(), Status>
     }
 }
 
-/// Returns the lines for the talker and the listener of a question, if they are missing.
+/// Returns a line for the talker of a question if it is missing, and a line for the listener if it is missing.
 fn lines_of(alloc: Global, request: &HeardRequest, missing: Missing) -> Result<Vec<u8>, AllocError>
     ensures value { IfOk result (λ text. text.items ≡
         absences (script_name request.now.file) request.now.query.talker request.now.query.listener missing) }
@@ -77,7 +77,7 @@ fn lines_of(alloc: Global, request: &HeardRequest, missing: Missing) -> Result<V
     Ok(text)
 }
 
-/// Returns the lines for the talkers and listeners of all rules that are missing.
+/// Returns a line for each missing talker and for each missing listener of the rules.
 fn lines_of_rules(
     alloc: Global,
     name: &str,
@@ -91,7 +91,8 @@ fn lines_of_rules(
     Ok(text)
 }
 
-/// Reports to `errors` who is missing. Returns the exit status: the given status, unless the report fails.
+/// Reports to `errors` whether the talker and the listener of a request are missing. Returns the exit status: the given
+/// status, unless the report fails.
 pub(crate) fn report_missing<E: Write>(
     alloc: Global,
     request: &HeardRequest,
@@ -111,7 +112,8 @@ pub(crate) fn report_missing<E: Write>(
     }
 }
 
-/// Warns on `errors` who is missing from rules. Returns the exit status: the given status, unless the report fails.
+/// Warns on `errors` of each missing talker and listener of the rules. Returns the exit status: the given status,
+/// unless the report fails.
 pub(crate) fn warn_of_missing<E: Write>(
     alloc: Global,
     name: &str,

@@ -49,8 +49,8 @@ pub(crate) fn status_if(missing: Missing) -> Status
     }
 }
 
-/// Prints the answer to a question about a script with this configuration. Returns the exit status, and which of the
-/// terminations that the question names the gateway never had.
+/// Prints the answer to a question about a script with this configuration. Returns the exit status, and whether the
+/// question's talker and listener are missing.
 fn print_heard<R: Read, W: Write>(
     alloc: Global,
     config: Config,
@@ -162,7 +162,7 @@ pub(crate) fn question_of<F: Files, E: Write>(
 }
 
 /// Prints who could hear whom while a script ran, or answers a question about a given time. Returns the exit status. A
-/// fault is reported to `errors`, and so are terminations that the question names and that the gateway never had.
+/// fault is reported to `errors`, and so is a talker or a listener in the question that the gateway never had.
 pub fn heard<H: Texts, F: Files, R: Read, W: Write, E: Write>(
     host: &mut H,
     files: &F,

@@ -29,7 +29,7 @@ fn push_escaped(byte: u8, page: &mut Vec<u8>) -> Result<(), AllocError>
     page.extend_from_slice(&[byte])
 }
 
-/// Returns a text with the escapes that a page needs.
+/// Returns `text` with the escapes that a page needs.
 pub(crate) fn escaped(alloc: Global, text: &[u8]) -> Result<Vec<u8>, AllocError>
     ensures value { IfOk result (λ page. page.items ≡ escaped text.now) }
 {
@@ -50,7 +50,7 @@ fn push_quoted(byte: u8, word: &mut Vec<u8>) -> Result<(), AllocError>
     word.extend_from_slice(&[byte])
 }
 
-/// Returns a text as one word of a command line.
+/// Returns `text` as one word of a command line.
 pub(crate) fn quoted(alloc: Global, text: &[u8]) -> Result<Vec<u8>, AllocError>
     ensures value { IfOk result (λ word. word.items ≡ quoted text.now) }
 {

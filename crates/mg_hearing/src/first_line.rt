@@ -7,7 +7,7 @@ use std::io::{self, ErrorKind, Read};
 /// The maximum length of a first line, in bytes. The line of a title is shorter.
 const LIMIT: usize = 1024;
 
-/// The first line of a script, with its line feed if it has one, or the first 1,024 bytes of a longer line.
+/// The first line of a script, including its line feed, if any. A line of more than 1,024 bytes is truncated.
 pub(crate) type FirstLine = ArrayVec<u8, LIMIT>;
 
 /// Reads the next byte of a line. Returns whether the line may have more bytes.

@@ -10,7 +10,7 @@ use mg_arguments::HeardRequest;
 use std::alloc::Global;
 use std::io::{self, Write};
 
-/// Writes a page up to its table: the page states the question.
+/// Writes a page up to its table. This part of the page states the question.
 pub(crate) fn write_front<W: Write>(
     alloc: Global,
     request: &HeardRequest,

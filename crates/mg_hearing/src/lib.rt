@@ -7,8 +7,8 @@
 //! The script is a journal or a recording. Its first line states the configuration of its gateway. [`heard`] runs the
 //! script with the same configuration, and returns the program's exit status.
 //!
-//! `specs/Heard.antt` defines the output and the exit status. `specs/Page.antt` defines a page (HTML), and
-//! `specs/Absence.antt` the messages about terminations that the gateway never had.
+//! `specs/Heard.antt` defines the output and the exit status. `specs/Page.antt` defines a page (HTML).
+//! `specs/Absence.antt` defines the messages about terminations that the gateway never had.
 #![tactic(auto)]
 
 mod absence;

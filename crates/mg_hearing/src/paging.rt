@@ -40,8 +40,8 @@ fn fault_of(error: &Error) -> HeardFault {
     }
 }
 
-/// Writes a page about a script with this configuration, up to its last row. Returns the ticks of its rows, the time that
-/// the script covers, and which of the terminations that the question names the gateway never had.
+/// Writes a page about a script with this configuration, up to its last row. Returns the range of ticks of its rows,
+/// the time that the script covers, and whether the question's talker and listener are missing.
 fn write_table<R: Read, W: Write>(
     alloc: Global,
     config: Config,
@@ -63,8 +63,8 @@ fn write_table<R: Read, W: Write>(
     }
 }
 
-/// Prints a page about the script of a reader. A fault is reported to `errors`, and on the page if its output has
-/// begun.
+/// Prints a page about the script of a reader. A fault is reported to `errors` and, if the output of the page has
+/// begun, also on the page.
 fn write_page<F: Files, R: Read, K: TextKey, W: Write, E: Write>(
     files: &F,
     alloc: Global,
@@ -104,8 +104,8 @@ fn write_page<F: Files, R: Read, K: TextKey, W: Write, E: Write>(
     }
 }
 
-/// Prints a page about the script of a reader. A fault is reported to `errors`, and on the page if its output has
-/// begun.
+/// Prints a page about the script of a reader. A fault is reported to `errors` and, if the output of the page has
+/// begun, also on the page.
 pub(crate) fn hear_page<F: Files, R: Read, W: Write, E: Write>(
     files: &F,
     alloc: Global,

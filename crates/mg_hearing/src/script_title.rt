@@ -19,7 +19,7 @@ fn config_in(alloc: Global, line: &[u8]) -> Option<Config>
 }
 
 /// Reads the first line of the script with this name. Returns the line, and the configuration that the line states. If
-/// the line states none, reports this to `errors`, and returns the exit status.
+/// the line states no configuration, reports this to `errors`, and returns the exit status.
 pub(crate) fn read_title<R: Read, E: Write>(
     alloc: Global,
     name: &str,

@@ -10,8 +10,8 @@ use std::alloc::Global;
 use std::fs::{Files, OpenOptions};
 use std::io::Write;
 
-/// Finds the time zone with this name, or UTC without a name. If no zone has this name, reports this to `errors`, and
-/// returns the exit status.
+/// Returns the time zone with this name, or UTC if `name` is `None`. If no zone has this name, reports this to
+/// `errors`, and returns the exit status.
 fn find_zone<F: Files, E: Write>(
     files: &F,
     alloc: Global,
@@ -33,8 +33,8 @@ fn find_zone<F: Files, E: Write>(
     }
 }
 
-/// Reads the file of names, if there is one. If the file can't be used, reports why to `errors`, and returns the exit
-/// status.
+/// Reads the file of names, if `path` names it. If the file can't be used, reports why to `errors`, and returns the
+/// exit status.
 fn find_names<F: Files, E: Write>(
     files: &F,
     alloc: Global,

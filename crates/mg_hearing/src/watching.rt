@@ -42,8 +42,8 @@ fn end_watch<E: Write>(
     }
 }
 
-/// Prints the first violation in the script of a request. A fault is reported to `errors`, and so are terminations that
-/// the rules name and that the gateway never had, if there is no violation.
+/// Prints the first violation in the script of a request. A fault is reported to `errors`. If there is no violation, so
+/// is each talker and listener of the rules that the gateway never had.
 fn watch_script<R: Read, W: Write, E: Write>(
     alloc: Global,
     request: &WatchRequest,
@@ -92,7 +92,7 @@ fn alarm_of<F: Files, E: Write>(
 }
 
 /// Prints the first violation of the rules in `request` as soon as it arrives. Returns the exit status. A fault is
-/// reported to `errors`. At the end of a script that breaks no rule, so are terminations that the rules name and that
+/// reported to `errors`. At the end of a script that breaks no rule, so is each talker and listener of the rules that
 /// the gateway never had.
 pub fn watch<H: Texts, F: Files, R: Read, W: Write, E: Write>(
     host: &mut H,

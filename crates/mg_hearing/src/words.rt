@@ -16,7 +16,7 @@ use std::alloc::{AllocError, Global};
 /// The maximum length of a key, in bytes.
 const KEY_ROOM: usize = 32;
 
-/// Returns the name of the script in a file, or in standard input without a file.
+/// Returns the name of a script: the path of its file, or the name of standard input if `file` is `None`.
 pub(crate) fn script_name(file: &Option<FilePath>) -> &str
     ensures value { result.now ≡ script_name file.now }
 {
@@ -82,7 +82,7 @@ pub(crate) fn last_words(alloc: Global, request: &HeardRequest) -> Result<Vec<u8
     Ok(words)
 }
 
-/// Appends an option with a text to a command.
+/// Appends an option and its value to a command.
 fn push_text(
     alloc: Global,
     option: &[u8],
@@ -122,7 +122,7 @@ fn push_time(option: &[u8], time: Option<Date>, command: &mut Vec<u8>) -> Result
     Ok(())
 }
 
-/// Appends the options about how a page is printed to a command.
+/// Appends to a command the options that say how a page is printed.
 fn push_printing(
     alloc: Global,
     printing: &Printing,

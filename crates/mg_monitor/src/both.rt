@@ -1,7 +1,7 @@
 use mg_core::{Core, Taken};
 use mg_serve::{Monitor, TickReport};
 
-/// Two monitors of one server. The second is optional.
+/// Two monitors of one server. The second monitor is optional.
 #[derive(Drop)]
 pub struct Both<A: Monitor + Drop, B: Monitor + Drop> {
     pub first: A,

@@ -45,7 +45,7 @@ impl Delays {
         self.micros = self.micros.saturating_add(micros);
     }
 
-    /// Writes the samples of this histogram. All of them have the given labels, without braces.
+    /// Writes the samples of this histogram. Each sample has these labels, which are passed without braces.
     pub fn write<W: Write>(&self, name: &str, labels: &str, writer: &mut W) -> io::Result<()> {
         for (within, (_, limit)) in self.within.iter().zip(BUCKETS) {
             writeln!(

@@ -20,7 +20,7 @@ pub fn sending(core: &Core, ports: &[PortTotals], ticks: u64) -> usize {
     sending
 }
 
-/// Returns the number of contexts, by counting the first member of each.
+/// Returns the number of contexts, by counting the first member of each context.
 fn contexts(core: &Core) -> usize {
     let mut contexts: usize = 0;
     for place in 0..core.terminations() {
@@ -94,7 +94,7 @@ fn put_messages<W: Write>(report: &TickReport<'_>, page: &mut Page<'_, W>) -> io
     put_fence(report, page)
 }
 
-/// Writes the fence, if there is one, and the number of messages that didn't pass the fence.
+/// If there is a fence, writes its number and the number of messages that didn't pass the fence.
 fn put_fence<W: Write>(report: &TickReport<'_>, page: &mut Page<'_, W>) -> io::Result<()> {
     let Some(fence) = report.fence else {
         return Ok(());

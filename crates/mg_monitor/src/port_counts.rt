@@ -8,14 +8,14 @@ pub struct PortCounts {
     pub counts: Counts,
     /// RTP datagrams that were dropped because of their sender.
     pub strangers: u64,
-    /// The packets that never arrived, since the start.
+    /// Counts the packets that have never arrived since the start.
     loss: Loss,
-    /// The number of packets lost by the last report.
+    /// The number of packets that were lost up to the last report.
     lost_before: u64,
     /// The termination that had the port at the last report, if its caller was expected to send.
     expected: Option<u32>,
-    /// The tick when a play list last accepted a packet, or the tick of the first report at which the caller was
-    /// expected to send, if that is later.
+    /// The later of two ticks: when a play list last accepted a packet, and when a report first expected the caller to
+    /// send.
     heard: u64,
 }
 
@@ -45,7 +45,7 @@ impl PortCounts {
         self.strangers = self.strangers.saturating_add(1);
     }
 
-    /// Counts a missing frame that is replaced by the previous one.
+    /// Counts a missing frame that is replaced by the previous frame.
     pub fn count_concealed(&mut self) {
         self.counts.concealed = self.counts.concealed.saturating_add(1);
     }
@@ -57,8 +57,8 @@ impl PortCounts {
 
     /// Returns for how many ticks a caller who is expected to send has been silent.
     ///
-    /// `expected` is the termination whose caller should be sending. The silence starts at the last accepted packet, or
-    /// at the first report at which that caller was expected to send, if that is later.
+    /// `expected` is the termination whose caller should be sending. The silence starts at the later of two moments:
+    /// the last accepted packet, and the first report at which this caller was expected to send.
     pub fn silent_ticks(&mut self, expected: Option<u32>, ticks: u64) -> u64 {
         if self.expected != expected {
             self.expected = expected;

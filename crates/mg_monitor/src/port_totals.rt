@@ -9,10 +9,11 @@ const TICKS: u64 = 50;
 pub struct PortTotals {
     /// RTP datagrams that arrived.
     pub packets: u64,
-    /// Missing frames that were replaced by the previous one.
+    /// Missing frames that were replaced by the previous frame.
     pub concealed: u64,
     pub loss: Loss,
-    /// The number of ticks that had passed when a play list last accepted a packet, or `None` if none was accepted.
+    /// The number of ticks that had passed when a play list last accepted a packet, or `None` if no packet was
+    /// accepted.
     heard: Option<u64>,
 }
 
@@ -35,7 +36,7 @@ impl PortTotals {
         }
     }
 
-    /// Counts a missing frame that is replaced by the previous one.
+    /// Counts a missing frame that is replaced by the previous frame.
     pub fn count_concealed(&mut self) {
         self.concealed = self.concealed.saturating_add(1);
     }

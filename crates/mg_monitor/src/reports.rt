@@ -114,7 +114,7 @@ impl<'a, E: Write> Reports<'a, E> {
         let _ = self.writer.flush();
     }
 
-    /// Prints the counts of a slot's port, if the port had trouble or its caller was silent, and resets them.
+    /// If the port of a slot had trouble or its caller was silent, prints the port's counts. Resets the counts.
     fn print_slot(&mut self, report: &TickReport<'_>, slot: u8) {
         let rooms = report.core.rooms();
         let (Some(port), Some(counts)) = (rooms.port(slot), self.ports.get_mut(usize::from(slot)))
@@ -215,7 +215,7 @@ fn print_totals<E: Write>(counts: &Counts, strangers: u64, writer: &mut E) {
     write_line(&line, writer);
 }
 
-/// Prints the fence, if there is one, and the number of messages that didn't pass the fence since the start.
+/// If there is a fence, prints its number and the number of messages that didn't pass the fence since the start.
 fn print_fence<E: Write>(fence: Option<Fence>, stale: u64, writer: &mut E) {
     let Some(fence) = fence else {
         return;

@@ -18,7 +18,7 @@ impl StaleWatch {
         }
     }
 
-    /// Records the number of stale messages so far, after this many ticks. Returns how many of them to report, or
+    /// Records the number of stale messages so far, after this many ticks. Returns how many messages to report, or
     /// `None` if nothing is to be reported.
     pub fn take(&mut self, stale: u64, ticks: u64) -> Option<u64> {
         let more = stale.saturating_sub(self.reported);

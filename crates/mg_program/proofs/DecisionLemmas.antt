@@ -29,7 +29,7 @@ does_both (Some a) (Some b) (Some c) p q k m n (done, all, are, decides) (more, 
   decides_both k done more m n decides goes,
 )
 
--- One call on the host that the gateway may make does this call.
+-- If the host did one call that the gateway may make, `DoesCalls` holds for the session's call in it, if any.
 pub does_one : (a b : Option (List HostCall)) (call : HostCall) (k : Knows) → Grows a b (call ∷ []) → MayCall k call
     → DoesCalls a b (on_ports (call ∷ [])) k (after k call)
 does_one a None call k grows may = tt
@@ -44,7 +44,7 @@ does_logged None (Some b) p k n h = absurd h
 does_logged (Some a) (Some b) p k n (done, all, are, decides) =
     ap on_ports all ∙ ports_both a done ∙ ap (λ (l : List Call). on_ports a ++ l) are
 
--- The calls since the log was `a`, which end in the knowledge `k`.
+-- The host did calls that the gateway may make, and the gateway's knowledge after these calls is `k`.
 abbrev Did : (a b : Option (List HostCall)) → Knows → Type 0
 Did a b k = (done : List HostCall) × Grows a b done × IfSome b (λ all. Decides first_known done k)
 

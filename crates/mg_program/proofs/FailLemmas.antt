@@ -1,4 +1,4 @@
--- A run by a clock, about whose failures nothing is stated.
+-- What is true of a run that is driven by a clock stays true with ⊤ for `fails`, which says nothing about failures.
 use Rattle.std.proofs.Common.{◌≡◌, ◌≢◌, ◌⊎◌, ℕ, ◌+◌, ◌-◌, ◌^◌, ◌≤◌, inl, inr, List, [], ◌++◌, length, Option, Err, Result}
 use Rattle.std.specs.Prelude.{⊤}
 use Rattle.mg_clock.specs.declared.step.Step.{Step}
@@ -18,7 +18,7 @@ use Rattle.mg_host.specs.declared.host_call.HostCall.{HostCall}
 use Rattle.mg_host.specs.HostCalls.{IsLogged}
 use Rattle.mg_program.specs.Serve.{ByClock, Gives}
 
--- The reasons why a run by a clock stops with a fault.
+-- The reasons why a run that is driven by a clock stops with a fault.
 abbrev ClockExits : Form → RunFault → (fails : Type 0) → List Step → TickSchedule → List Command → (now new : ClockSeen)
     → Type 0
 ClockExits form fault fails steps schedule commands now new = Exits {T = Counts} (Err fault) ⊥

@@ -41,7 +41,7 @@ grows_both (Some a) (Some b) (Some c) p q h k = k ∙ ap (λ (l : List HostCall)
 pub same_grown : (a b c : Option (List HostCall)) (p : List HostCall) → Grows a b p → c ≡ b → Grows a c p
 same_grown a b c p h same = subst (λ (x : Option (List HostCall)). Grows a x p) (sym same) h
 
--- ## Without a session
+-- ## Calls that run no session
 
 pub fails_anyhow : (config : Config) (status : Status) → (status ≡ NoMemory) ⊎ (status ≡ Failed) → FailsToStart config status
 fails_anyhow config status (inl is) = subst (λ (s : Status). FailsToStart config s) (sym is) tt

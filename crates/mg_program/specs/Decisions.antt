@@ -27,7 +27,7 @@ abbrev pub all_ready : List Bool
 all_ready = replicate (termination_limit + 1) true
 
 -- The gateway's knowledge after a call. When a datagram arrives, its socket is reported once. So a datagram may be
--- waiting there from then on, until a receive finds none.
+-- waiting there from then on, until a receive finds no datagram.
 abbrev pub after : Knows → HostCall → Knows
 after k (Reported socket) = knows k.timing (slice_set k.ready socket true) false
 after k (Poll true) = knows k.timing k.ready true

@@ -23,10 +23,11 @@ abbrev pub Checks : {W : Type 0} → W → W → Status → Type 0
 Checks old new status =
     (status ≡ Done) ⊎ (status ≡ Failed) ⊎ ((status ≡ NoAnswer) × (new ≡ old))
 
--- A run took place, and the status says how it ended. A successful run prints no error, unless it is asked when a
--- talker was audible and the script has no RTP datagrams, or the gateway of a script never had a termination that the
--- run is asked about (`Says` is true of the errors). A clock-driven run reads no input. `before` and `after` are the
--- calls on the host, if they are known. `clock` has the readings and waits of the clock that was stopped.
+-- A run took place, and the status says how it ended. A successful run prints an error in at most two cases. Either it
+-- is asked when a talker was audible, and the script has no RTP datagrams. Or it is asked about a termination that the
+-- gateway of the script never had; `Says` is true of these errors. A clock-driven run reads no input. `before` and
+-- `after` are the calls on the host, if they are known. `clock` has the readings and waits of the clock that was
+-- stopped.
 abbrev pub Runs : {R W : Type 0} → (R → Option (List ℕ)) → (W → Option (List ℕ))
     → (silent : Type 0) → (Says : List ℕ → Type 0) → (before after : Option (List HostCall))
     → (clock : ClockSeen) → R → R → W → W → Invocation → Status → Type 0

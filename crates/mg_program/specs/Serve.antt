@@ -28,8 +28,8 @@ use Rattle.mg_options.specs.declared.status.Status.{Status}
 use Rattle.mg_program.specs.Decisions.{HasDecided, Knows}
 use Rattle.mg_program.specs.Status.{status_of}
 
--- The sockets of a gateway, in the order in which they are bound: the control socket, and then the media sockets. All
--- are bound to `address`, if it is given, and otherwise to the addresses of the configuration.
+-- The sockets of a gateway, in the order in which they are bound: the control socket, and then the media sockets. If
+-- `address` is given, all sockets are bound to it, and otherwise to the addresses of the configuration.
 abbrev pub binds_of : Config → (address : Option (List ℕ)) → List HostCall
 binds_of config address =
     Bind (unwrap_or address config.control_address) config.control_port true
@@ -50,9 +50,9 @@ Gives (ByClock late clock) form begun outcome commands =
     (unread : ClockSeen) × IsLogged begun unread.readings []
     × ClockCommands form late unread clock ⊤ outcome commands
 
--- The ports were bound, and a gateway ran with this outcome. It started from its journal's text, as far as the text is
--- known, after it had appended to the journal. The output is a recording if that was requested. From then on, the host
--- did everything that the session asked its ports to do, except for what the gateway left out, and nothing else.
+-- The ports were bound, and a gateway ran with this outcome. After it had appended to its journal, it started from the
+-- journal's text, as far as the text is known. If a recording was requested, the output is a recording. From then on,
+-- the host did exactly what the session asked its ports to do, except for the calls that the gateway left out.
 pub record ServesOnPorts (drive : Drive) (config : Config) (service : Service)
     (held written text : Option (List ℕ)) (bound last : Option (List HostCall))
     (outcome : Result Counts RunFault) : Type 0 where
@@ -73,7 +73,7 @@ pub record ServesOnPorts (drive : Drive) (config : Config) (service : Service)
   pub decided : HasDecided begun last known
 
 -- Either the ports of a gateway with this configuration were bound, the gateway ran, and the status says how the run
--- ended. Or the gateway failed to start, and the rest is unchanged.
+-- ended. Or the gateway failed to start, no session ran, and `unchanged` is true.
 abbrev pub ServesChosen : Drive → (unchanged : Type 0) → Config → Service
     → (held written text : Option (List ℕ)) → (found last : Option (List HostCall)) → Status
     → Type 0
@@ -83,7 +83,7 @@ ServesChosen drive unchanged config service held written text found last status 
     × ServesOnPorts drive config service held written text bound last outcome)
     ⊎ (FailsToStart config status × RunsNoSession found last × unchanged)
 
--- Either the journal, if there is one, was opened, and a configuration was chosen, perhaps with drawn numbers. Or the
+-- Either the gateway's journal (if any) was opened, and a configuration was chosen, perhaps with drawn numbers. Or the
 -- gateway failed to start.
 abbrev pub Serves : Drive → (unchanged : Type 0) → Config → Service → Draws
     → (held written : Option (List ℕ)) → (before last : Option (List HostCall)) → Status → Type 0

@@ -32,9 +32,9 @@ fn bind_socket<H: Sockets>(host: &mut H, address: [u8; 4], port: u16) -> Result<
     }
 }
 
-/// Binds the ports of a gateway: the control port, and then the media ports in ascending order. They are bound to
-/// `bind_address`, if it is given, and otherwise to the addresses in the configuration. The error names the first port
-/// that can't be bound.
+/// Binds the ports of a gateway: the control port, and then the media ports in ascending order. If `bind_address` is
+/// given, all ports are bound to it, and otherwise to the addresses in the configuration. The error names the first
+/// port that can't be bound.
 fn bind_all<H: Sockets>(
     host: &mut H,
     config: &Config,

@@ -140,9 +140,9 @@ fn run<
 /// `reports`.
 ///
 /// Some statuses are answers. For a question about a given time, 1 means that the talker could not be heard, and 2 that
-/// the script doesn't say. For any question about who could be heard, 2 also means that the gateway never had one of
-/// the terminations that the question names, and a message says which. For rules, 1 means that the script breaks a
-/// rule. For a check of seals, 1 means that a text was changed, and 2 that it has no seals.
+/// the script doesn't say. For any question about who could be heard, 2 also means that the gateway never had the
+/// talker or the listener in the question. A message then names who is missing. For rules, 1 means that the script
+/// breaks a rule. For a check of seals, 1 means that the text was changed, and 2 that the text has no seals.
 pub fn program<
     'a,
     N: Net,

@@ -33,7 +33,7 @@ pub(crate) struct GatewayPorts<'a, H: Sockets, J: Journal, C: Clock, K: LogKey> 
     ghost decided: { HasDecided K.calls (H.calls host) (knows timing ready false) },
 }
 
-/// Appends lines to a journal, if there is one.
+/// Appends lines to the journal, or fails if there is no journal.
 fn append<J: Journal, C: Clock>(
     journal: &mut Option<DatedJournal<'_, J, C>>,
     lines: &[u8],
@@ -49,7 +49,7 @@ fn append<J: Journal, C: Clock>(
     }
 }
 
-/// Counts a failure, if this result is an error.
+/// If `answer` is an error, counts it as a failure.
 fn count<T>(answer: &Result<T, PortFault>, failures: &mut u64)
     ensures fault { OnErr answer.now (IsCounted failures.old failures.new) }
 {

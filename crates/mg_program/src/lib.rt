@@ -10,9 +10,9 @@
 //! ```
 //!
 //! A gateway's sockets are those of the host ([`mg_host::Sockets`]), which are bound at startup. `GatewayPorts` lends
-//! them to a session (`mg_serve`). It sends no packet in a late tick or to an address that no caller can have, and
-//! receives from a media socket only if a datagram may be waiting there. `specs/Decisions.antt` defines these
-//! decisions.
+//! these sockets to a session (`mg_serve`). It sends no packet in a late tick, and no packet to an address that no
+//! caller can have. It receives from a media socket only if a datagram may be waiting there. `specs/Decisions.antt`
+//! defines these decisions.
 //!
 //! `specs/Program.antt` defines how a run ends. `mg_arguments` defines what the arguments request, and `mg_start`
 //! defines how a gateway starts.

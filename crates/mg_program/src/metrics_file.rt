@@ -10,10 +10,10 @@ const MAX_PATH: usize = 4095;
 /// The maximum length of an error line, in bytes: a path and the system's reason.
 const LINE_ROOM: usize = 5000;
 
-/// A file for metrics. Each text is first written to a temporary file, which is then renamed, so a reader of the
-/// metrics file never sees a partial text.
+/// A file for metrics. Metrics are first written to a temporary file, which is then renamed, so a reader of the metrics
+/// file never sees incomplete text.
 ///
-/// A failure is reported to the operator only if it is the first, or the first after a success.
+/// A failure is reported to the operator only if it is the first failure, or the first one after a success.
 #[derive(Drop)]
 pub struct MetricsFile<'a, F: Files, E: Write> {
     files: &'a F,

@@ -15,7 +15,8 @@ pub const SOCKETS: usize = TERMINATIONS + 1;
 /// The sockets at which a datagram may be waiting.
 ///
 /// When a datagram arrives, its socket is reported once. So a datagram may be waiting there from then on, until a
-/// receive finds none. Nothing else makes the socket empty: neither a limit on datagrams per poll nor a failed receive.
+/// receive finds no datagram. Nothing else makes the socket empty: neither a limit on datagrams per poll nor a failed
+/// receive.
 pub(crate) type Ready = [bool; SOCKETS];
 
 /// A datagram may be waiting at every socket.

@@ -9,8 +9,8 @@ use mg_core::Peer;
 use mg_host::{Sockets, Unsent};
 use mg_ports::{FailureCauses, PortFault, Timing};
 
-/// Returns whether an address is one that no caller can have: 0.0.0.0, or a multicast, reserved or broadcast address.
-/// The address 0.0.0.0 puts a call on hold; a packet to it would reach this machine itself.
+/// Returns whether no caller can have this address: it is 0.0.0.0, or a multicast, reserved or broadcast address. The
+/// address 0.0.0.0 puts a call on hold; a packet to it would reach this machine itself.
 fn is_unusable(address: [u8; 4]) -> bool
     ensures value { (result ≡ true) ↔ IsUnusable address }
 {

@@ -29,7 +29,7 @@ fn report_fault<E: Write>(fault: &RunFault, config: &Config, errors: &mut E) {
     };
 }
 
-/// Reports why a run failed, if it did. Returns the exit status.
+/// If a run failed, reports why. Returns the exit status.
 pub fn status_after<E: Write>(
     outcome: &Result<Counts, RunFault>,
     config: &Config,

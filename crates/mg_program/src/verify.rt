@@ -9,7 +9,7 @@ use mg_sealing::{verify_input, verify_text};
 use std::alloc::Global;
 use std::io::{Read, Write};
 
-/// Prints whether the seals in a file are right. Returns the exit status. A fault is reported to `errors`.
+/// Prints whether the seals in a file are valid. Returns the exit status. A fault is reported to `errors`.
 fn verify_file<H: Texts, W: Write, E: Write>(
     host: &mut H,
     alloc: Global,
@@ -30,7 +30,7 @@ fn verify_file<H: Texts, W: Write, E: Write>(
     }
 }
 
-/// Prints whether the seals in a file are right, or the seals in the input if there is no file. Returns the exit
+/// Prints whether the seals in a file are valid, or the seals in the input if `file` is `None`. Returns the exit
 /// status. A fault is reported to `errors`.
 pub fn verify<H: Texts, R: Read, W: Write, E: Write>(
     host: &mut H,

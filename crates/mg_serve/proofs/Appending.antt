@@ -27,7 +27,7 @@ use Rattle.mg_serve.proofs.JournalLemmas.{after_both, append_tried, journaled_bo
 use Rattle.mg_serve.proofs.Printing.{calls_both}
 use Rattle.mg_serve.proofs.Taking.{told_both, told_none}
 
--- ## Texts
+-- ## Text that ends in a line feed
 
 feed_after : (text front : List ℕ) → text ≡ front ++ 10 ∷ [] → EndsInLineFeed text
 feed_after text front is = subst EndsInLineFeed (sym is) (ends_line front)
@@ -88,7 +88,7 @@ ticks_work before after j k has some small is logged dated =
       tries = append_tried j.durability j.untried 0 (ticks_line j.lacking) Written (Ok tt) has refl;
     })
 
--- ## All ticks
+-- ## Appending ticks
 
 pub nothing_appended : (seen : PortsSeen) (j : JournalView) → AppendsBefore [] (Ok tt) seen seen j j
 nothing_appended seen j = record {
@@ -108,7 +108,7 @@ logs_both a b c p q h k = subst (λ (l : List Call). LogsCalls a c l) (sym (call
   journaled = after_both (calls_of p) (calls_of q) a.journal b.journal c.journal h.journaled k.journaled;
 })
 
--- The trace of the appends leads from the ticks that the journal lacked before to those that it lacks after.
+-- In a record `AppendsBefore`, the trace fits the numbers of ticks that the journal lacks before and after the appends.
 lacked : (a b : PortsSeen) (j k : JournalView) → (h : AppendsBefore [] (Ok tt) a b j k) →
     IsJournaled j.durability j.lacking h.trace k.lacking
 lacked a b j k h =
@@ -159,7 +159,7 @@ ticks_then (Err fault) a b c j k m h more =
           (sym (append-nil (h.trace ++ last))) (then_tried a b j k m.untried last h more.tries);
     }
 
--- ## A message
+-- ## Appending a message
 
 message_done : (d : Option Durability) (durable : Durability) (n : ℕ) (source : Peer) (bytes : List ℕ) →
     d ≡ Some durable → n ≡ 0 → IsDatagram source bytes →
@@ -238,7 +238,7 @@ refused_before followed fault p (appended, lines, durability, is, all, inl ticks
     (appended, lines, durability, is, all, inl ticks)
 refused_before followed fault p (appended, lines, durability, is, all, inr none) = absurd none
 
--- If an append of ticks failed, no message follows.
+-- If an append of ticks failed, `AppendsBefore` holds for any entries that would have followed.
 pub not_announced : (followed : List TraceEntry) (fault : AppendFault) (a b : PortsSeen) (j k : JournalView) →
     AppendsBefore [] (Err fault) a b j k → AppendsBefore followed (Err fault) a b j k
 not_announced followed fault a b j k h = record {
@@ -266,7 +266,7 @@ nothing_announced source bytes seen j none = record {
       IsTried d j.untried (Happened (events.Control source bytes) ∷ []) j.untried) (sym none) refl;
 }
 
--- ## A tick
+-- ## The end of a tick
 
 -- Trying an append has the same effect after one more tick.
 tried_again : (d : Option Durability) (n left : ℕ) (lines : List ℕ) (result : Result (Unit {0}) AppendFault) →
@@ -298,7 +298,7 @@ pub counted : (d : Option Durability) (lacking : ℕ) → IsSome d → after_one
 counted None lacking some = absurd cc
 counted (Some durable) lacking some = refl
 
--- A tick after which no append is due is only counted.
+-- If no append is due after a tick, the tick is only counted.
 pub tick_alone : (seen : PortsSeen) (j k : JournalView) → j.untried < 10 → k ≡ with_tick j → EndsTick seen seen j k
 tick_alone seen j k few is = subst (λ (v : JournalView). EndsTick seen seen j v) (sym is) (record {
   appends = [];

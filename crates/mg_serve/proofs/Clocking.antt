@@ -25,7 +25,7 @@ use Rattle.mg_serve.specs.aids.Outside.{Outside, LeadsByTrace}
 use Rattle.mg_serve.proofs.Steps.{prints_some, some_printed}
 use Rattle.mg_serve.proofs.Taking.{each_both, each_one, takes_as, takes_joined, takes_none, takes_seen, takes_then}
 
--- ## One step
+-- ## A step of the clock
 
 -- The commands of a step after its poll.
 after_poll : Step → List Command
@@ -42,7 +42,7 @@ unfolding after_poll
 at_most_one steps.Message = omega arith
 at_most_one (steps.Tick timing) = omega arith
 
--- Printing failed during the poll.
+-- If printing fails during the poll, the step fails.
 pub poll_fails : (setup : Setup) (step : Step) (failed : WriteFailed) (old mid : CoreState) (x y : Outside) →
     x.printer.has_failed ≡ false → y.printer.has_failed ≡ true → LeadsByTrace old mid x y (Performs setup Poll) →
     LeadsByTrace old mid x y (StepTaken x.printer.form setup step (Err failed))
@@ -69,7 +69,7 @@ both_done setup timing w mid next p q h k =
     each_both (Performs setup) (Poll ∷ []) (Tick timing ∷ []) w mid next p q (each_one (Performs setup) Poll w mid p h)
     (each_one (Performs setup) (Tick timing) mid next q k)
 
--- Printing failed during the tick.
+-- If printing fails during the tick, the step fails.
 pub tick_fails : (setup : Setup) (timing : Timing) (failed : WriteFailed) (old mid core : CoreState) (x y z : Outside) →
     y.printer.has_failed ≡ false → z.printer.has_failed ≡ true → LeadsByTrace old mid x y (Performs setup Poll) →
     LeadsByTrace mid core y z (Performs setup (Tick timing)) →
@@ -100,7 +100,7 @@ tick_taken form setup timing old mid core x y z h k =
     takes_then old mid core x y z (Performs setup Poll) (Performs setup (Tick timing))
     (StepTaken form setup (steps.Tick timing) (Ok tt)) h k (λ w m next p q. both_done setup timing w m next p q)
 
--- ## Steps one after another
+-- ## Several steps of the clock
 
 pub no_steps : (setup : Setup) (first : TickSchedule) (clock : ClockSeen) (core : CoreState) (x : Outside) →
     LeadsByTrace core core x x (StepsDone setup first 0 clock clock first)
@@ -112,7 +112,7 @@ commands_more taken step =
     flat_map-append step_commands taken (step ∷ []) ∙
     ap (λ (l : List Command). commands_of taken ++ l) (append-nil (step_commands step))
 
--- One more step of the clock was taken.
+-- After `count` steps of the clock, one more step makes `count + 1` steps.
 pub one_step_more : (form : Form) (setup : Setup) (first s v : TickSchedule) (count : ℕ) (step : Step) (c d e : ClockSeen)
     (old mid core : CoreState) (x y z : Outside) → LeadsByTrace old mid x y (StepsDone setup first count c d s) →
     StepBegins s d e step v → LeadsByTrace mid core y z (StepTaken form setup step (Ok tt)) →
@@ -128,9 +128,9 @@ one_step_more form setup first s v count step c d e old mid core x y z h begins 
           (each_both (Performs setup) (commands_of taken) (step_commands step) w m next p q done performed),
     ))
 
--- ## How a run ends
+-- ## The end of a run by the clock
 
--- The run ended because the clock failed or the maximum number of steps was taken.
+-- If the clock fails, can't reach the next tick, or has taken the maximum number of steps, the run ends with `Read`.
 pub clock_fails : (form : Form) (setup : Setup) (allowed count : ℕ) (s : TickSchedule) (c d e : ClockSeen)
     (fails : Type 0) (old core : CoreState) (x z : Outside) →
     LeadsByTrace old core x z (StepsDone setup (record { ticks = 0; allowed = allowed; messages = 0 }) count c d s) →
@@ -155,7 +155,7 @@ clock_fails form setup allowed count s c d e fails old core x z h why =
       done,
     ))
 
--- The run ended because printing failed.
+-- If printing fails, the run ends with `Write`.
 pub print_fails : (setup : Setup) (allowed count : ℕ) (s v : TickSchedule) (step : Step) (failed : WriteFailed)
     (c d e : ClockSeen) (fails : Type 0) (old mid core : CoreState) (x y z : Outside) →
     LeadsByTrace old mid x y (StepsDone setup (record { ticks = 0; allowed = allowed; messages = 0 }) count c d s) →

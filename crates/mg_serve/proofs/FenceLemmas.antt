@@ -38,7 +38,7 @@ pub calls_fenced : (fence : Option Fence) (calls : List Call) → IsFenced fence
 calls_fenced fence [] = refl
 calls_fenced fence (call ∷ calls) = calls_fenced fence calls
 
--- ## Appends
+-- ## Appends behind a fence
 
 pub appended_fenced : (fence : Option Fence) (p : List TraceEntry) → All IsAppended p → IsFenced fence p fence
 appended_fenced fence [] all = refl

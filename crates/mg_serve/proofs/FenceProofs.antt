@@ -1,4 +1,4 @@
--- No message is run if its number is below that of an earlier message that was run.
+-- A message is not run if an earlier message with a higher number was run.
 use Rattle.std.proofs.Common.{◌≡◌, ℕ, ◌≤◌, max, true, List, [], ◌∷◌, ◌++◌, map, Option, Some, None, refl, sym, ap, subst, ◌∙◌, arith, unwrap_or}
 use Rattle.std.specs.Option.{option_map}
 use Rattle.std.proofs.lemmas.Bool.{leb-true}
@@ -27,7 +27,8 @@ not_below n m f bytes None least passed is = absurd cc
 not_below n m f bytes (Some k) least passed is =
     let same : k ≡ m = cc in subst (λ (x : ℕ). n ≤ x) same (omega (arith, least, leb-true f.reached k passed))
 
--- The number that a list of notes reaches, counted on from the number that its first part reaches.
+-- If the first part of a list of notes reaches `mid`, the second part leads from `mid` to the number that the whole
+-- list reaches.
 reached_after : ReadingsAreUnique → (from mid last : ℕ) (p q : List Note) → Reaches from p mid → Reaches from (p ++ q) last →
     Reaches mid q last
 reached_after unique from mid last [] q h k = subst (λ (m : ℕ). Reaches m q last) (sym h) k

@@ -27,7 +27,7 @@ use Rattle.mg_serve.specs.Trace.{TraceEntry, Called, Happened, Printed, Noted, S
 use Rattle.mg_serve.proofs.JournalSteps.{Holds, after_parts, journals_parts, quiet_both, start_holds, trace_holds}
 use Rattle.mg_serve.proofs.Printing.{calls_both}
 
--- An answer goes to the peer whose message was handled right before.
+-- Each answer in the trace goes to the peer whose message was handled directly before the answer.
 abbrev AnswersFollow : Option Peer → List TraceEntry → Type 0
 AnswersFollow due [] = Unit {0}
 AnswersFollow due (Called (Send zero to text) ∷ trace) = (due ≡ Some to) × AnswersFollow None trace
@@ -215,7 +215,7 @@ answer_at due (Printed more ∷ front) to text rest h = later due _ front to (an
 answer_at due (Noted more ∷ front) to text rest h = later due _ front to (answer_at None front to text rest h)
 answer_at due (Stale source bytes ∷ front) to text rest h = later due _ front to (answer_at None front to text rest h)
 
--- ## The law
+-- ## Nothing answered is forgotten
 
 announced : (durability : Durability) (told happened : List Event) (state next : Progress) (to : Peer) (bytes : List ℕ)
     (journal : JournalState) → Holds durability told happened state journal
@@ -228,7 +228,7 @@ announced durability told happened (Announces source other) next to bytes journa
       synced,
     )
 
--- The journal of a session follows the session's trace.
+-- If a session has a journal, the session's trace advances the progress of this journal.
 pub journals_of : (setup : Setup) (durability : Durability) (trace : List TraceEntry) (lacking : ℕ)
     → setup.journal ≡ Some durability → IsJournaled setup.journal 0 trace lacking
     → Journals durability (Lacks 0) trace (Lacks lacking)

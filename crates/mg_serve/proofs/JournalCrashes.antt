@@ -1,4 +1,4 @@
--- The losses of a crash.
+-- A crash loses speech and a few ticks, and nothing else.
 use Rattle.std.proofs.Common.{◌≡◌, ◌⊎◌, inl, inr, ℕ, zero, suc, List, [], ◌∷◌, ◌++◌, map, replicate, refl, sym, subst, append-nil, arith}
 use Rattle.mg_journal.specs.declared.durability.Durability.{Durability}
 use Rattle.mg_journal.specs.Journal.{JournalState}
@@ -23,7 +23,7 @@ use Rattle.mg_serve.proofs.ReadBack.{OneOutcome}
 use Rattle.mg_serve.proofs.Runs.{events_both}
 use Rattle.mg_serve.proofs.JournalSteps.{Holds, after_parts, journals_parts, loses_more, start_holds, trace_holds}
 
--- ## Moments
+-- ## Moments of a session
 
 pub each_part : EachPartIsAMoment
 each_part setup durability commands w last front rest told lacking old new has tells session lacks journaled =
@@ -45,7 +45,7 @@ each_part setup durability commands w last front rest told lacking old new has t
       later,
     )
 
--- ## Runs in two parts
+-- ## Splitting a run in two
 
 pub split_run : (w last : World) (es fs : List Event) (sent : List Sent) → Run w (es ++ fs) sent last
     → (a : List Sent) × (b : List Sent) × (mid : World) × Run w es a mid × Run mid fs b last
@@ -70,7 +70,7 @@ front_run setup w last front rest ran =
     (subst (λ (l : List Event). Run w l ran.sent last) (events_both front rest) ran.run) in
     (a, now, one)
 
--- ## What a journal tells
+-- ## The events in a journal
 
 abbrev pub ToldAt : List Event → List Event → Progress → JournalState → Type 0
 ToldAt told happened progress journal =
@@ -92,7 +92,7 @@ told_at durability told happened (Announces source bytes) journal (tells, works,
   },
 )
 
--- The events in the journal at a moment of a session.
+-- At a moment of a session, the journal has the events that happened, except for RTP datagrams and lost ticks.
 pub moment_told : RecordingsAreRead → (setup : Setup) (durability : Durability) (w : World)
     (told : List Event) (front rest : List TraceEntry) (journal : JournalState)
     → IsMoment setup durability w told front rest journal
@@ -109,7 +109,7 @@ moment_told read setup durability w told front rest journal moment =
           (start_holds durability told moment.start moment.tells) js moment.after),
     )
 
--- ## Resuming
+-- ## Resuming after a crash
 
 -- After the lost ticks, the worlds agree except for what was received.
 pub after_lost : RtpChangesSpeechOnly → (w v now before : World) (events kept : List Event) (ticks : ℕ) (sent others : List Sent)

@@ -1,4 +1,4 @@
--- A journal that is cut off contains the events up to some moment.
+-- A truncated journal contains the events up to some moment.
 use Rattle.std.proofs.Common.{◌≡◌, ◌⊎◌, inl, inr, ℕ, false, true, List, [], ◌∷◌, ◌++◌, replicate, Option, IfSome, refl, sym, ap, subst, ◌∙◌, append_assoc, append-nil, arith}
 use Rattle.mg_journal.specs.declared.durability.Durability.{Durability}
 use Rattle.mg_journal.specs.Journal.{JournalState}
@@ -19,7 +19,7 @@ use Rattle.mg_serve.proofs.Runs.{events_both}
 use Rattle.mg_serve.proofs.JournalSteps.{one_front}
 use Rattle.mg_serve.proofs.JournalText.{cut_script, marked}
 
--- ## Lists in two parts
+-- ## Two ways to split a list
 
 abbrev pub Apart : (a b c d : List Event) → Type 0
 Apart a b c d =
@@ -40,7 +40,7 @@ apart (e ∷ a) b (f ∷ c) d is =
     let left : a ++ b ≡ c ++ d = cc in
     apart_more e f a b c d same (apart a b c d left)
 
--- ## Moments
+-- ## Moments of a trace
 
 abbrev IsPast : List TraceEntry → List Event → Type 0
 IsPast front events =
@@ -90,9 +90,9 @@ past_of (Noted text ∷ front) (e ∷ events) rest is =
 past_of (Stale source bytes ∷ front) (e ∷ events) rest is =
     after_quiet (Stale source bytes) front (e ∷ events) (λ past. refl) (past_of front (e ∷ events) rest is)
 
--- ## The law
+-- ## A truncated journal describes a moment
 
--- A prefix of the kept events is what had happened by some moment.
+-- Each prefix of the kept events is what had happened by some moment.
 first_kept : (told : List Event) (front : List TraceEntry) (first more kept rest : List Event) (ticks : ℕ)
     → first ≡ told ++ more → kept ≡ more ++ rest
     → without_rtp (events_of_trace front) ≡ kept ++ replicate ticks Tick → WereTold told front first
@@ -102,7 +102,7 @@ first_kept told front first more kept rest ticks is parts lost =
     (lost ∙ (ap (λ (l : List Event). l ++ replicate ticks Tick) parts ∙ append_assoc more rest (replicate ticks Tick))) in
     inr (past, later, here, inl (is ∙ ap (λ (l : List Event). told ++ l) (sym are)))
 
--- All kept events and a message that was announced are what the journal contained at some moment.
+-- At some moment, the journal contained exactly the kept events and a message that was announced.
 with_message : (told : List Event) (front : List TraceEntry) (first more kept : List Event) (ticks : ℕ) (source : Peer)
     (bytes : List ℕ) → first ≡ told ++ more → more ≡ kept ++ Control source bytes ∷ []
     → without_rtp (events_of_trace front) ≡ kept ++ replicate ticks Tick → WereTold told front first
@@ -168,7 +168,7 @@ any_cut read setup durability w told front rest journal text cut lost moment kno
       were_told told front first others written _ loses (apart told written first others apart_is),
     )
 
--- ## Resuming
+-- ## Resuming from a truncated journal
 
 module _ (runs : SessionsAreRuns) (one : OneOutcome) (law : RtpChangesSpeechOnly) where
   resumes_at : (setup : Setup) (durability : Durability) (w v : World) (told : List Event) (others : List Sent)

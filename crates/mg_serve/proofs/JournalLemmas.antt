@@ -39,7 +39,7 @@ after_quiet (Send socket to bytes ∷ calls) a b quiet same = after_quiet calls 
 after_quiet (BeginTick timing ∷ calls) a b quiet same = after_quiet calls a b quiet same
 after_quiet (Append lines durability result ∷ calls) a b quiet same = absurd cc
 
--- ## What the journal lacks
+-- ## The ticks that the journal lacks
 
 journals_both : (durable : Durability) (a b c : Progress) (p q : List TraceEntry) → Journals durable a p b →
     Journals durable b q c → Journals durable a (p ++ q) c
@@ -122,7 +122,7 @@ pub tick_journaled : (d : Option Durability) (n : ℕ) →
 tick_journaled None n = (refl, refl)
 tick_journaled (Some durable) n = (Lacks (n + 1), refl, refl)
 
--- ## When an append is tried
+-- ## The ticks since an append was tried
 
 tries_both : (a b c : ℕ) (p q : List TraceEntry) → Tries a p b → Tries b q c → Tries a (p ++ q) c
 tries_both a b c [] q h k = subst (λ (n : ℕ). Tries n q c) h k

@@ -48,7 +48,7 @@ all_synced (Some base) journal is synced = record {
   text = is ∙ ap (λ (l : List ℕ). Some l) (sym (append-nil base) ∙ sym (append-nil (base ++ [])));
 }
 
--- ## After appends
+-- ## The disk after appends
 
 unknown_grows : (old : JournalState) (part : List ℕ) → old.text ≡ None → append_known old.text part ≡ None
 unknown_grows old part none = ap (λ (o : Option (List ℕ)). append_known o part) none
@@ -105,7 +105,7 @@ calls_rest known (Receive socket receipt ∷ calls) old new rests after = calls_
 calls_rest known (Send socket to bytes ∷ calls) old new rests after = calls_rest known calls old new rests after
 calls_rest known (BeginTick timing ∷ calls) old new rests after = calls_rest known calls old new rests after
 
--- ## The law
+-- ## Power losses forget no answer
 
 same_text : (a b : List ℕ) → Some a ≡ Some b → a ≡ b
 same_text a b h = cc
@@ -113,7 +113,8 @@ same_text a b h = cc
 same_events : (a b : List Event) → Some a ≡ Some b → a ≡ b
 same_events a b h = cc
 
--- If a script begins with a complete script, its events begin with those of that script.
+-- Suppose text begins with a complete script. Then the events in the complete lines of the text begin with the events
+-- of this script.
 begins_with : (base rest cut : List ℕ) (before first : List Event) → IsScriptOf base before → cut ≡ base ++ rest
     → IsScriptOf (whole_lines cut) first → (others : List Event) × (first ≡ before ++ others)
 begins_with base rest cut before first one is script =

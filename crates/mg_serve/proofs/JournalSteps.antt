@@ -26,12 +26,14 @@ use Rattle.mg_serve.proofs.JournalText.{IsScriptFrom, count_script, known_more, 
 abbrev pub ticks : ℕ → List Event
 ticks n = replicate n Tick
 
--- Unless the journal is broken, `told` is everything that happened except for the ticks that the journal lacks.
+-- If the journal works, `told` is everything that happened except for the ticks that the journal lacks. If the journal
+-- is broken, `told` may also have some of these ticks, or a message that was not handled.
 abbrev pub Standing : Bool → ℕ → List Event → List Event → Type 0
 Standing false lacking happened told = happened ≡ told ++ ticks lacking
 Standing true lacking happened told = LosesTicks lacking happened told
 
--- The events in a journal, which begin with the events `told` that it contained at the start.
+-- The journal contains the events `told` from before the session. After them come the events that happened, except for
+-- lost ticks.
 abbrev pub Holds : Durability → List Event → List Event → Progress → JournalState → Type 0
 Holds durability told happened (Lacks lacking) journal =
     (events : List Event) × TellsEvents journal (told ++ events) × Standing journal.is_broken lacking happened events
@@ -39,7 +41,7 @@ Holds durability told happened (Announces source bytes) journal =
     TellsEvents journal (told ++ (happened ++ Control source bytes ∷ [])) × (journal.is_broken ≡ false)
     × (durability ≡ Synced → journal.synced ≡ journal.text)
 
--- ## Ticks
+-- ## Lists of ticks
 
 ticks_apart : (left n : ℕ) → ticks (left + n) ≡ ticks n ++ ticks left
 ticks_apart left n =
@@ -130,7 +132,7 @@ message_done durability told happened events source bytes part old new works is 
       λ sync. ap (λ (d : Durability). if is_synced d then append_known old.text part else old.synced) sync,
     )
 
--- If an append of a message breaks the journal, the message may be in it.
+-- A prefix of a list with one message is empty or has this message.
 pub one_front : (message : Event) (first others : List Event) → message ∷ [] ≡ first ++ others → (first ≡ []) ⊎ (first ≡ message ∷ [])
 one_front message [] others is = inl refl
 one_front message (x ∷ []) others is =
@@ -214,7 +216,7 @@ append_holds read durability how told happened lacking lines (Err Broken) next o
     (message_broken durability told happened events source bytes (seal ++ (comment ++ lines)) old new breaks tells
     old.is_broken refl (subst (λ (n : ℕ). Standing old.is_broken n happened events) none stands) script)
 
--- ## Other entries
+-- ## Entries that append nothing
 
 tick_stands : (b : Bool) (lacking : ℕ) (happened events : List Event) → Standing b lacking happened events
     → Standing b (lacking + 1) (happened ++ Tick ∷ []) events
@@ -238,7 +240,7 @@ tick_holds durability told happened lacking next old new (events, tells, stands)
     (same_state durability told (happened ++ Tick ∷ []) (Lacks (lacking + 1)) old new same
     (events, tells, tick_stands old.is_broken lacking happened events stands))
 
--- The announced message was handled.
+-- After the announced message is handled, the journal still has everything that happened.
 handled_holds : (durability : Durability) (told happened : List Event) (source : Peer) (bytes : List ℕ) (old : JournalState)
     → Holds durability told happened (Announces source bytes) old
     → Holds durability told (happened ++ Control source bytes ∷ []) (Lacks 0) old
@@ -323,7 +325,7 @@ journals_parts durability old new (one ∷ p) q (next, step, js) =
     let (mid, first, other) = journals_parts durability next new p q js in
     (mid, (next, step, first), other)
 
--- The journal still has the events of a session after a trace.
+-- After a trace, the journal still has the events of the session.
 pub trace_holds : RecordingsAreRead → (durability : Durability) (told happened : List Event)
     (trace : List TraceEntry) (progress next : Progress) (old new : JournalState) → Holds durability told happened progress old
     → Journals durability progress trace next → JournalAfter (calls_of trace) old new

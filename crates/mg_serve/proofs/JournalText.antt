@@ -24,7 +24,7 @@ use Rattle.mg_chain.proofs.SealLemmas.{seal_line, seal_text}
 use Rattle.mg_ports.specs.Journaled.{IsComment}
 use Rattle.mg_serve.specs.JournalLaws.{IsScriptOf}
 
--- ## Lines of whole texts
+-- ## The lines of complete text
 
 parts_of : (b : ℕ) (bs : List ℕ) (fed : Bool) → has_line_feed (b ∷ bs) ≡ fed → IsWhole (b ∷ bs)
     → (has_line_feed (b ∷ bs) ≡ true) × IsWhole bs
@@ -121,13 +121,14 @@ cut_fed partial (b ∷ bs) fed =
     fed_byte partial b bs (b == 10) refl fed (λ p k. cut_fed p bs k)
     ∙ sym (ap (lines_after true partial) (whole_byte b bs fed))
 
--- The lines of a text that is cut off are those of its complete lines.
+-- The lines of truncated text are those of its complete lines.
 pub cut_is : (front : List ℕ) → lines_of false front ≡ lines_of true (whole_lines front)
 cut_is front = after_feed front (has_line_feed front) refl (λ p fed. cut_fed p front fed)
 
--- ## Events of whole texts
+-- ## The events of complete text
 
--- The lines of this text are all complete, and are read as a script of these events, if ticks are counted or not.
+-- All lines of this text are complete, and are read as a script of these events. `counts` says whether ticks are
+-- counted at the start.
 abbrev pub IsScriptFrom : (counts : Bool) → List ℕ → List Event → Type 0
 IsScriptFrom counts text events = IsWhole text × (events_of (expanded counts (lines_of true text)) ≡ Some events)
 
@@ -155,7 +156,8 @@ marked_both x y whole =
 stays_marked : (x y : List ℕ) → IsWhole x → marked x ≡ true → marked (x ++ y) ≡ true
 stays_marked x y whole is = marked_both x y whole ∙ ap (λ (b : Bool). b || marked y) is
 
--- Appending a script extends a text that may be unknown.
+-- Suppose text is a script, or is unknown. If a script is appended, the result is a script of the events of both parts,
+-- or is unknown.
 pub known_more : (known : Option (List ℕ)) (y : List ℕ) (es fs : List Event)
     → IfSome known (λ text. IsScriptOf text es × (marked text ≡ true)) → IsScriptFrom true y fs
     → IfSome (append_known known y) (λ text. IsScriptOf text (es ++ fs) × (marked text ≡ true))
@@ -193,7 +195,7 @@ split_events [] ys es h = ([], es, refl, refl)
 split_events (x ∷ xs) ys es h = split_step (event_of x) (events_of xs) (events_of (xs ++ ys)) es h
     (λ l is. split_events xs ys l is)
 
--- If a script is cut off, its complete lines are a script of its first events.
+-- If a script is truncated, its complete lines are a script of its first events.
 pub cut_script : (c : Bool) (text cut lost : List ℕ) (es : List Event) → text ≡ cut ++ lost → IsScriptFrom c text es
     → (fs : List Event) × (gs : List Event) × (es ≡ fs ++ gs) × IsScriptFrom c (whole_lines cut) fs
 cut_script c text cut lost es parts script =
@@ -248,7 +250,8 @@ recording_whole [] = whole_nil
 recording_whole (entry ∷ entries) =
     whole_more (entry_line entry) (recording_of entries) (entry_ends entry).0 (recording_whole entries)
 
--- A line of a recording is a script of its event, if it has one, whether ticks are counted or not.
+-- Whether or not ticks are counted, a line of a recording is a script of its event. The line of a comment is a script
+-- without events.
 pub entry_script : RecordingsAreRead → (c : Bool) (entry : Entry) → IsRecorded entry
     → IsScriptFrom c (entry_line entry) (events_in (entry ∷ []))
 entry_script law c entry fits =
@@ -284,20 +287,20 @@ sealed law known seal part events (inr (text, line, is)) script =
     let comment = seal_line text in
     noted law (seal_text text) seal part events (line ∙ comment.0) comment.1 comment.2 script
 
--- Lines that are appended, possibly with a seal and a comment before them, are a script of their events.
+-- Appended lines are a script of their events, even if a seal and a comment come before them.
 pub written : RecordingsAreRead → (known : Option (List ℕ)) (seal comment lines : List ℕ) (events : List Event)
     → (seal ≡ []) ⊎ IsSeal known seal → (comment ≡ []) ⊎ (IsComment comment × (is_seal comment ≡ false))
     → IsScriptFrom true lines events → IsScriptFrom true (seal ++ (comment ++ lines)) events
 written law known seal comment lines events seals dated script =
     sealed law known seal (comment ++ lines) events seals (commented law comment lines events dated script)
 
--- A prefix of appended lines is a script of the first events.
+-- The complete lines in a prefix of appended lines are a script of the first events.
 pub written_front : (part : List ℕ) (events : List Event) (n : ℕ) → IsScriptFrom true part events
     → (first : List Event) × (others : List Event) × (events ≡ first ++ others) × IsScriptFrom true (whole_lines (take n part)) first
 written_front part events n script =
     cut_script true part (take n part) (drop n part) events (sym (take-append-drop n part)) script
 
--- The line of a message.
+-- The line of a message is a script of this message.
 pub message_script : RecordingsAreRead → (source : Peer) (bytes : List ℕ) → IsDatagram source bytes
     → IsScriptFrom true (event_line (Control source bytes)) (Control source bytes ∷ [])
 message_script law source bytes fits = entry_script law true (Happened (Control source bytes)) fits
@@ -305,6 +308,6 @@ message_script law source bytes fits = entry_script law true (Happened (Control 
 count_ends : (count : ℕ) → EndsWhole (ticks_line count)
 count_ends count = ends_more (codes "ticks ") _ (ends_more (decimal count) (codes "\n") feed_ends)
 
--- The line of ticks.
+-- The line of `count` ticks is a script of these ticks.
 pub count_script : (count : ℕ) → 0 < count → count < 2 ^ 64 → IsScriptFrom true (ticks_line count) (replicate count Tick)
 count_script count some small = ((count_ends count).0, count_is_ticks count some small)

@@ -8,6 +8,8 @@ pub mod Appending
 pub mod Steps
 pub mod Reading
 pub mod Running
+pub mod RunEnds
+pub mod WholeRuns
 pub mod Runs
 pub mod ReadBack
 pub mod Clocking

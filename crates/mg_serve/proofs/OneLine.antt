@@ -50,7 +50,7 @@ full text i lt many = full_by (get_or text i 0 == 10) refl
         ap (take 1000) (kept_plain text i lt (λ e. absurd (true≢false (sym (eq-eqb (get_or text i 0) 10 e) ∙ is)))) ∙
         take-append-le 1000 (kept (take i text)) (get_or text i 0 ∷ []) long
 
--- Any other byte is kept.
+-- If fewer than 1,000 bytes are kept, a byte other than a line feed is kept too.
 pub plain : (text : List ℕ) (i : ℕ) → i < length text → get_or text i 0 ≢ 10 →
     length (one_line (take i text)) < 1000 →
     one_line (take (i + 1) text) ≡ one_line (take i text) ++ get_or text i 0 ∷ []

@@ -1,4 +1,4 @@
--- Several prints one after another.
+-- Several prints in sequence.
 use Rattle.std.proofs.Common.{◌≡◌, ℕ, Bool, true, false, List, [], ◌∷◌, ◌++◌, Option, refl, sym, ap, subst, ◌∙◌, append_assoc}
 use Rattle.std.proofs.KnownBytes.{Appends-nil, Appends-trans, Appends-kept, Keeps-refl, Keeps-trans}
 use Rattle.std.proofs.lemmas.List.Concat.{flat_map-append}
@@ -10,7 +10,7 @@ use Rattle.mg_serve.specs.declared.form.Form.{Form}
 use Rattle.mg_serve.specs.Trace.{TraceEntry, Called, Happened, Printed, Noted, Stale, calls_of, output_of, printed_text}
 use Rattle.mg_serve.specs.aids.Printing.{PrinterView, Prints, Puts}
 
--- ## What is done, in two parts
+-- ## Output and calls of two traces in sequence
 
 pub output_both : (form : Form) (p q : List TraceEntry) → output_of form (p ++ q) ≡ output_of form p ++ output_of form q
 output_both form p q = flat_map-append (printed_text form) p q
@@ -23,7 +23,7 @@ calls_both (Printed text ∷ p) q = calls_both p q
 calls_both (Noted text ∷ p) q = calls_both p q
 calls_both (Stale source bytes ∷ p) q = calls_both p q
 
--- ## Texts
+-- ## Printing two texts in sequence
 
 left_empty : (s t : List ℕ) → s ++ t ≡ [] → s ≡ []
 left_empty [] t is = refl
@@ -51,7 +51,7 @@ front_after x y z s t h k = record {
   written = Appends-trans x y z s k.front h k.written;
 }
 
--- If nothing more is written, the printed text remains.
+-- If nothing more is written after a print, the same text was printed.
 pub puts_kept : (a b : Bool) (x y z : Option (List ℕ)) (s : List ℕ) → Puts a b s x y → Keeps y z → Puts a b s x z
 puts_kept false false x y z s h same = Appends-kept x y z s h same
 puts_kept false true x y z s h same = (
@@ -81,7 +81,7 @@ pub puts_nothing : (a : Bool) (x : Option (List ℕ)) → Puts a a [] x x
 puts_nothing false x = Appends-nil x
 puts_nothing true x = Keeps-refl x
 
--- ## Prints
+-- ## Printing traces
 
 pub prints_both : (a b c : PrinterView) (x y z : Option (List ℕ)) (p q : List TraceEntry) → Prints a b x y p →
     Prints b c y z q → Prints a c x z (p ++ q)

@@ -29,7 +29,7 @@ use Rattle.mg_serve.specs.Trace.{TraceEntry, Called, Happened, Printed, Noted, S
 use Rattle.mg_serve.proofs.OneLine.{short}
 use Rattle.mg_serve.proofs.Runs.{session_run}
 
--- ## Entries
+-- ## The entries of a recording
 
 abbrev entries_of : List TraceEntry → List Entry
 entries_of [] = []
@@ -63,7 +63,7 @@ entries_both (Printed text ∷ p) q = ap (λ (l : List Entry). entry.Noted (one_
 entries_both (Noted text ∷ p) q = ap (λ (l : List Entry). entry.Noted (one_line text) ∷ l) (entries_both p q)
 entries_both (Stale source bytes ∷ p) q = entries_both p q
 
--- ## What can be read back
+-- ## Entries that can be read back
 
 -- All entries of the trace can be read back.
 abbrev AreRead : List TraceEntry → Type 0
@@ -214,7 +214,7 @@ session_read setup title commands next p valid h =
     (read_both (Noted title ∷ []) (Printed (codes "ready") ∷ []) (noted_read title) (printed_read (codes "ready")))
     (each_read (Performs setup) (does_read setup valid) commands (start_of setup.config) next p h)
 
--- ## The theorems
+-- ## Recordings repeat the session
 
 pub read_back : RecordingsAreRead → SessionsAreReadBack
 read_back law setup title commands next p valid h =

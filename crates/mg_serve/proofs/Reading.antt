@@ -34,7 +34,7 @@ not_command line long =
           (λ t. absurd (omega (arith, long, ap length ((bytes_eq-Decides line (codes "quit")).0 t)))),
     ) refl
 
--- Cutting a line to 8 bytes does not change the command that the line denotes.
+-- Truncating a line to 8 bytes does not change the command that the line denotes.
 cut_by : (long : Bool) (line : List ℕ) → ltb 8 (length line) ≡ long → line_command (take 8 line) ≡ line_command line
 cut_by true line is = not_command (take 8 line) (omega (arith, length-take 8 line, ltb-true 8 (length line) is)) ∙
     sym (not_command line (omega (arith, ltb-true 8 (length line) is)))
@@ -72,7 +72,7 @@ cut_push_by false line b is = ap (λ (l : List ℕ). take 8 (l ++ b ∷ [])) (ta
 cut_push : (line : List ℕ) (b : ℕ) → take 8 (take 8 line ++ b ∷ []) ≡ take 8 (line ++ b ∷ [])
 cut_push line b = cut_push_by (ltb 8 (length line)) line b refl
 
--- ## One byte
+-- ## The next byte
 
 one_byte : (ended : Bool) (x : ℕ) (partial bytes : List ℕ) → x ≢ 10 →
     lines_after ended partial (x ∷ bytes) ≡ lines_after ended (partial ++ x ∷ []) bytes
@@ -108,7 +108,7 @@ plain_byte form setup left b w ne = (
   (refl, refl),
 )
 
--- A line feed ends a line, which is the last one if it is `quit`.
+-- A line feed ends a line. If this line is `quit`, no line is left to execute.
 feed_split : (q ended : Bool) (left more : List ℕ) → is_quit (line_command (without_return left)) ≡ q →
     before_quit (lines_after ended left (10 ∷ more)) ≡
     cond q [] (without_return left ∷ before_quit (lines_after ended [] more))
@@ -183,7 +183,7 @@ last_stands form kept (x ∷ xs) is some printed =
       answered,
     )
 
--- ## Bytes, and then more
+-- ## Bytes and the bytes after them
 
 pub session_both : (setup : Setup) (xs ys : List (List ℕ)) (w mid next : World) (p q : List TraceEntry) →
     Session setup (map line_command xs) w p mid → Session setup (map line_command ys) mid q next →
@@ -232,7 +232,7 @@ pub no_bytes : (form : Form) (setup : Setup) (partial kept : List ℕ) (w : Worl
     BytesTaken form setup partial [] kept (Ok false) w [] w
 no_bytes form setup partial kept w is = ([], partial, is, λ ended more. refl, (refl, refl))
 
--- After `quit` or a failed print, more bytes change nothing.
+-- After `quit` (`whatever_follows`) or a failed print (`faulty_follows`), more bytes change nothing.
 pub whatever_follows : (form : Form) (setup : Setup) (partial a b kept : List ℕ) (w next : World) (p : List TraceEntry) →
     BytesTaken form setup partial a kept (Ok true) w p next → BytesTaken form setup partial (a ++ b) kept (Ok true) w p
     next

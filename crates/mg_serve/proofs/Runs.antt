@@ -73,7 +73,7 @@ each_ran setup R step [] w next p h = ran_as setup w next p [] h.0 (no_run setup
 each_ran setup R step (x ∷ xs) w next p h = ran_as setup w next p (h.0 ++ h.1) h.3
     (ran_both setup w h.2 next h.0 h.1 (step x w h.2 h.0 h.4) (each_ran setup R step xs h.2 next h.1 h.5))
 
--- ## Events
+-- ## The sends of an event
 
 no_events : (setup : Setup) (sent : List Sent) → events_of_trace (sends_of setup sent) ≡ []
 no_events setup [] = refl
@@ -130,7 +130,7 @@ datagram_ran setup zero event w next p (appended, others, is, all, inr (lines, d
     (ran_as setup w next others refused last (no_run setup w next refused refl refl same)))
 datagram_ran setup (suc s) event w next p h = event_ran setup event w next p h
 
--- A datagram that arrived is a run of at most one event, whether or not its sender is admitted.
+-- The effect of a datagram is a run of at most one event, whether or not its sender is admitted.
 become_ran : (admitted : Bool) (setup : Setup) (socket : ℕ) (datagram : Peer × List ℕ) (w next : World) (p : List TraceEntry) →
     Becomes admitted setup socket datagram w p next → SendsAreARun setup w p next
 become_ran true setup socket datagram w next p (inl h) =

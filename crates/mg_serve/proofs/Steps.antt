@@ -45,7 +45,7 @@ use Rattle.mg_serve.proofs.JournalLemmas.{appended_prints, may_print, stale_jour
 use Rattle.mg_serve.proofs.Printing.{output_both, prints_nothing}
 use Rattle.mg_serve.proofs.Taking.{called, tells_announced, tells_appends, tells_both, tells_called, tells_print, tells_print_then, tells_refused, each_more, takes_after, takes_none}
 
--- A control datagram was announced and printed, and its answer was sent, if there was one.
+-- If a control datagram was announced, run and printed, and its answer (if any) was sent, the datagram was handled.
 pub control_answered : (setup : Setup) (source : Peer) (bytes : List ℕ) (sent : List Sent) (old new : CoreState)
     (seen later : PortsSeen) (x y : Option (List ℕ)) (a b : PrinterView) (j k m : JournalView) (fence : Option Fence)
     (z : Outside) → AppendsBefore (Happened (events.Control source bytes) ∷ []) (Ok tt) seen later j k →
@@ -71,7 +71,7 @@ control_answered setup source bytes sent old new seen later x y a b j k m fence 
       held,
     )
 
--- A control datagram was dropped because an append failed.
+-- If an append fails, and a note reports this, the control datagram is dropped.
 pub control_refused : (setup : Setup) (source : Peer) (bytes : List ℕ) (fault : AppendFault) (core : CoreState)
     (seen later : PortsSeen) (x y : Option (List ℕ)) (a b : PrinterView) (j k : JournalView) →
     AppendsBefore (Happened (events.Control source bytes) ∷ []) (Err fault) seen later j k →
@@ -95,7 +95,7 @@ control_refused setup source bytes fault core seen later x y a b j k h printed w
       stands,
     )
 
--- A control datagram was dropped because memory ran out.
+-- If memory runs out, and a note reports this, the control datagram is dropped.
 pub control_unread : (setup : Setup) (source : Peer) (bytes : List ℕ) (core : CoreState) (seen : PortsSeen)
     (x y : Option (List ℕ)) (a b : PrinterView) (j : JournalView) →
     Prints a b x y (Noted (codes "no memory for a control datagram") ∷ []) →
@@ -108,7 +108,7 @@ stale_prints : (form : Form) (source : Peer) (bytes : List ℕ) → output_of fo
 stale_prints Plain source bytes = refl
 stale_prints Recording source bytes = refl
 
--- A control datagram was dropped because it didn't pass the fence.
+-- If a control datagram doesn't pass the fence, it is dropped.
 pub control_stale : (setup : Setup) (source : Peer) (bytes : List ℕ) (number : Option ℕ) (core : CoreState)
     (seen : PortsSeen) (x : Option (List ℕ)) (a : PrinterView) (j : JournalView) → HasNumber bytes number →
     passes j.fence bytes number ≡ false →
@@ -147,7 +147,7 @@ media_taken setup (suc s) source bytes old new seen x y a b j first h printed w 
       held,
     )
 
--- Socket 0 is the control socket.
+-- A socket with the number 0 is the control socket.
 pub at_control : (setup : Setup) (socket : ℕ) (source : Peer) (bytes : List ℕ) (old new : CoreState)
     (x y : Outside) → socket ≡ 0 → LeadsByTrace old new x y (Becomes true setup 0 (source, bytes)) →
     LeadsByTrace old new x y (Becomes true setup socket (source, bytes))
@@ -172,7 +172,7 @@ by_admission admitted setup socket datagram old new x y same h w stands =
     let (trace, next, logged, becomes, after) = h w stands in
     (trace, next, logged, subst (λ (b : Bool). Becomes b setup socket datagram w trace next) (same w stands) becomes, after)
 
--- A receive returned a datagram, which was handled.
+-- If a receive returned a datagram, and the datagram was handled, the receive is done.
 pub arrived : (setup : Setup) (socket : ℕ) (source : Peer) (bytes : List ℕ) (old new : CoreState) (x y z : Outside) →
     IsDatagram source bytes → LogsTrace x y (Called (Receive socket (Delivered source bytes)) ∷ []) →
     LeadsByTrace old new y z (BecomesIfAdmitted setup socket (source, bytes)) →
@@ -182,7 +182,7 @@ arrived setup socket source bytes old new x y z fits logged h =
     (BecomesIfAdmitted setup socket (source, bytes))
     (Received setup socket true) logged h (λ w next q s. ((source, bytes), (q, fits, refl, s)))
 
--- ## A turn
+-- ## A socket's turn
 
 -- This many datagrams were received and handled.
 abbrev pub HaveCome : Setup → ℕ → ℕ → World → List TraceEntry → World → Type 0
@@ -292,7 +292,7 @@ pub finished_some : (setup : Setup) (kept : List ℕ) (w next : World) (p : List
 finished_some setup [] w next p some h = absurd (some refl)
 finished_some setup (b ∷ bs) w next p some h = h
 
--- ## What is printed
+-- ## The printed text
 
 -- Nothing is printed for this trace in plain form.
 abbrev IsQuiet : List TraceEntry → Type 0
@@ -359,7 +359,7 @@ quiet_turn setup socket w next p h = quiet_as p (h.received ++ h.last) h.parts
     (quiet_each (ReceivesDatagram setup socket) (quiet_comes setup socket) h.datagrams w next h.received h.arrivals)
     (quiet_end socket (length h.datagrams) h.last h.ends))
 
--- If a command prints something, it is a command for which something is printed.
+-- If a command prints text, `prints` is true for this command.
 pub prints_some : (form : Form) (setup : Setup) (command : Command) (w next : World) (p : List TraceEntry) →
     Performs setup command w p next → output_of form p ≢ [] → prints form command ≡ true
 prints_some Plain setup Poll w next p h some = absurd
@@ -396,7 +396,7 @@ some_printed x y p before after logged =
     puts_failed x.printer.has_failed y.printer.has_failed (output_of x.printer.form p) x.written y.written before after
     logged.prints.puts
 
--- The step of an RTP datagram at a media socket.
+-- If an RTP datagram at a media socket is handled at the socket's port, the gateway takes the step of this event.
 pub media_steps : (setup : Setup) (socket port : ℕ) (source : Peer) (bytes : List ℕ) (w next : World) (taken : Taken) →
     1 ≤ socket → port ≡ slot_port (limits_of setup.config) (socket - 1) → TakesMedia w port source bytes next taken →
     Step w (event_at setup socket source bytes) [] next

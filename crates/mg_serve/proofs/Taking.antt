@@ -1,4 +1,4 @@
--- Steps one after another: seen from outside, for each element of a list, and from one core state to the next.
+-- Steps in sequence: seen from outside, for each element of a list, and from one core state to the next.
 use Rattle.std.proofs.Common.{◌≡◌, ℕ, ◌+◌, false, List, [], ◌∷◌, ◌++◌, map, Option, Some, None, Ok, Err, refl, sym, ap, subst, ◌∙◌, append_assoc, arith}
 use Rattle.std.proofs.lemmas.List.{append-nil, map-id}
 use Rattle.std.proofs.lemmas.List.FromFn.{map-range_with_len_more}
@@ -37,7 +37,7 @@ pub told_none : (a : Option (List Call)) → Logged a a []
 told_none None = tt
 told_none (Some a) = sym (append-nil a)
 
--- ## What is seen from outside
+-- ## Traces as seen from outside
 
 pub tells_both : (a b c : Outside) (p q : List TraceEntry) → LogsTrace a b p → LogsTrace b c q → LogsTrace a c (p ++ q)
 tells_both a b c p q h k = record {
@@ -65,7 +65,7 @@ tells_none a = record {
   fenced = refl;
 }
 
--- An entry is printed, and the state of the journal changes.
+-- An entry that is printed and changes the journal's state is logged.
 pub tells_print_then : (seen : PortsSeen) (x y : Option (List ℕ)) (a b : PrinterView) (j k : JournalView)
     (did : TraceEntry) → calls_of (did ∷ []) ≡ [] → Prints a b x y (did ∷ []) → k.durability ≡ j.durability →
     IsJournaled j.durability j.lacking (did ∷ []) k.lacking → IsTried j.durability j.untried (did ∷ []) k.untried →
@@ -80,7 +80,7 @@ tells_print_then seen x y a b j k did none h same lacks tries fenced = record {
   fenced = fenced;
 }
 
--- An entry is printed, and the state of the journal is unchanged.
+-- An entry that is printed and leaves the journal's state unchanged is logged.
 pub tells_print : (seen : PortsSeen) (x y : Option (List ℕ)) (a b : PrinterView) (j : JournalView) (did : TraceEntry) →
     calls_of (did ∷ []) ≡ [] → IsIdle did → Prints a b x y (did ∷ []) →
     LogsTrace (outside seen x a j) (outside seen y b j) (did ∷ [])
@@ -115,7 +115,7 @@ tells_called x a j b c calls logged quiet same = record {
   fenced = calls_fenced j.fence calls;
 }
 
--- Appends change the number of ticks that the journal lacks.
+-- Appends are logged, and change the number of ticks that the journal lacks.
 pub tells_appends : (x : Option (List ℕ)) (a : PrinterView) (j k : JournalView) (b c : PortsSeen)
     (trace : List TraceEntry) → LogsCalls b c (calls_of trace) → output_of a.form trace ≡ [] →
     k.durability ≡ j.durability → IsJournaled j.durability j.lacking trace k.lacking →
@@ -131,7 +131,7 @@ tells_appends x a j k b c trace logs none same lacks tries fenced = record {
   fenced = fenced;
 }
 
--- Appends are followed by the event that they announce, which may change the fence.
+-- Appends are logged together with the event that they announce. The event may change the fence.
 pub tells_announced : (event : Event) (seen later : PortsSeen) (x y : Option (List ℕ)) (a b : PrinterView)
     (j k : JournalView) (fence : Option Fence) → (h : AppendsBefore (Happened event ∷ []) (Ok tt) seen later j k) →
     Prints a b x y (Happened event ∷ []) → IsFenced j.fence (Happened event ∷ []) fence →
@@ -151,7 +151,7 @@ tells_announced event seen later x y a b j k fence h printed fenced =
           fenced;
     }
 
--- Appends, of which the last failed, are followed by a note.
+-- If the last append failed, the appends are logged together with a note.
 pub tells_refused : (followed : List TraceEntry) (fault : AppendFault) (text : List ℕ) (seen later : PortsSeen)
     (x y : Option (List ℕ)) (a b : PrinterView) (j k : JournalView) →
     (h : AppendsBefore followed (Err fault) seen later j k) → Prints a b x y (Noted text ∷ []) →
@@ -164,7 +164,7 @@ tells_refused followed fault text seen later x y a b j k h printed =
     (fenced_as j.fence k.fence h.trace h.fence (appends_fenced followed (Err fault) j.fence h.trace h.are)))
     (tells_print later x y a b k (Noted text) refl tt printed)
 
--- ## Each of a list
+-- ## The elements of a list
 
 pub each_both : {A : Type 0} (R : A → World → List TraceEntry → World → Type 0) (xs ys : List A) (w mid next : World)
     (a b : List TraceEntry) → Each R xs w a mid → Each R ys mid b next → Each R (xs ++ ys) w (a ++ b) next
@@ -193,9 +193,9 @@ range_more n =
     sym (map-id (range_with_len 0 (n + 1))) ∙ map-range_with_len_more (λ (k : ℕ). k) 0 n n (omega arith) ∙
     ap (λ (l : List ℕ). l ++ n ∷ []) (map-id (range_with_len 0 n))
 
--- ## From a core to a core
+-- ## From one core state to the next
 
--- Two steps are joined, and the result may depend on what was seen from outside.
+-- Two steps are joined. The result may depend on the traces that were logged.
 pub takes_joined : (a b c : CoreState) (x y z : Outside) (R S T : World → List TraceEntry → World → Type 0) →
     LeadsByTrace a b x y R → LeadsByTrace b c y z S →
     ((w mid next : World) (p q : List TraceEntry) → LogsTrace x y p → LogsTrace y z q →
@@ -212,7 +212,7 @@ pub takes_then : (a b c : CoreState) (x y z : Outside) (R S T : World → List T
 takes_then a b c x y z R S T first second join =
     takes_joined a b c x y z R S T first second (λ w mid next p q logged more. join w mid next p q)
 
--- The conclusion of a step may also depend on what was seen from outside.
+-- The conclusion of a step may also depend on the trace that was logged.
 pub takes_seen : (a b : CoreState) (x y : Outside) (R T : World → List TraceEntry → World → Type 0) →
     LeadsByTrace a b x y R → ((w next : World) (p : List TraceEntry) → LogsTrace x y p → R w p next → T w p next) →
     LeadsByTrace a b x y T
@@ -231,13 +231,13 @@ pub takes_none : (a : CoreState) (x : Outside) (R : World → List TraceEntry �
     ((w : World) → R w [] w) → LeadsByTrace a a x x R
 takes_none a x R same w stands = ([], w, tells_none x, same w, stands)
 
--- Entries of a trace that don't change the world.
+-- Entries that are logged and don't change the world form a step.
 pub takes_told : (a : CoreState) (x y : Outside) (calls : List TraceEntry)
     (R : World → List TraceEntry → World → Type 0) → LogsTrace x y calls → ((w : World) → R w calls w) →
     LeadsByTrace a a x y R
 takes_told a x y calls R logged same w stands = (calls, w, logged, same w, stands)
 
--- Calls are followed by a step of the core.
+-- Calls and the core's step after them form one step.
 pub takes_after : (a b : CoreState) (x y z : Outside) (calls : List TraceEntry)
     (S T : World → List TraceEntry → World → Type 0) → LogsTrace x y calls → LeadsByTrace a b y z S →
     ((w next : World) (q : List TraceEntry) → S w q next → T w (calls ++ q) next) → LeadsByTrace a b x z T
@@ -245,7 +245,7 @@ takes_after a b x y z calls S T logged second join w stands =
     let (q, next, more, s, kept) = second w stands in
     (calls ++ q, next, tells_both x y z calls q logged more, join w next q s, kept)
 
--- One more socket has its turn.
+-- The turns of some sockets and the turn of one more socket form one step.
 pub one_turn_more : (a b c : CoreState) (x y z : Outside) (setup : Setup) (socket : ℕ) →
     LeadsByTrace a b x y (Each (SocketTurn setup) (range_with_len 0 socket)) →
     LeadsByTrace b c y z (SocketTurn setup socket) →

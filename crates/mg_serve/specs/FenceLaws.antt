@@ -1,4 +1,4 @@
--- The purpose of a fence: a controller that was replaced by another one can't command the gateway any more.
+-- The purpose of a fence: a controller that has been replaced can't command the gateway any more.
 use Rattle.std.specs.Prelude.{ℕ, ◌≤◌, List, ◌∷◌, ◌++◌, map, Option, Some}
 use Rattle.mg_words.specs.declared.peer.Peer.{Peer}
 use Rattle.mg_core.specs.declared.event.Event.TheVariants.{Control}
@@ -11,7 +11,7 @@ use Rattle.mg_serve.specs.Fenced.{IsFenced}
 use Rattle.mg_serve.specs.Trace.{TraceEntry, Happened, events_of_trace}
 
 -- If a message is run, its number is at least that of every earlier message that was run since an operator last set the
--- fence. This includes messages in earlier lives of the gateway that are in its journal.
+-- fence. Earlier messages include those in the journal from earlier lives of the gateway.
 abbrev pub NoLowerNumberIsRun : Type 0
 NoLowerNumberIsRun =
     (start : Fence) (end : Option Fence) (earlier : List Note) (front rest : List TraceEntry)

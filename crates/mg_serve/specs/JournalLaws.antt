@@ -48,9 +48,8 @@ pub record IsMoment (setup : Setup) (durability : Durability) (w : World) (told 
   pub tells : TellsEvents start told
   pub after : JournalAfter (calls_of front) start journal
 
--- Each part of a session's trace ends at a moment. The premises are fields of `Served`, the
--- contract of a server's run. The rest of the trace leads from the journal at the moment to the one
--- at the end of the run.
+-- Each prefix of a session's trace ends at a moment. The premises are fields of `Served`, the contract of a server's
+-- run. The rest of the trace leads from the journal at this moment to the journal at the end of the run.
 abbrev pub EachPartIsAMoment : Type 0
 EachPartIsAMoment =
     (setup : Setup) (durability : Durability) (commands : List Command) (w last : World)
@@ -74,7 +73,7 @@ pub record IsKept (durability : Durability) (told : List Event) (front : List Tr
   pub tells : TellsEvents journal (told ++ without_rtp (events_of_trace front))
   pub synced : durability ≡ Synced → journal.synced ≡ journal.text
 
--- Nothing answered is forgotten. This holds whenever an answer is sent next.
+-- Nothing answered is forgotten: at each moment at which an answer is sent next, `IsKept` holds.
 abbrev pub NothingAnsweredIsForgotten : Type 0
 NothingAnsweredIsForgotten =
     (setup : Setup) (durability : Durability) (w : World) (told : List Event)
@@ -89,8 +88,8 @@ abbrev pub ticks_lacking : Progress → ℕ
 ticks_lacking (Lacks ticks) = ticks
 ticks_lacking (Announces source bytes) = 0
 
--- Everything that happened is kept, except for the last few ticks, at most as many as the journal
--- lacks. At its end, the journal may announce a message that was not handled.
+-- Everything that happened is kept, except for at most as many of the last ticks as the journal lacks. The journal may
+-- end with a message that was not handled.
 pub record LosesTicks (lacking : ℕ) (happened written : List Event) : Type 0 where
   pub kept : List Event
   pub ticks : ℕ
@@ -99,9 +98,9 @@ pub record LosesTicks (lacking : ℕ) (happened written : List Event) : Type 0 w
   pub wrote : (written ≡ kept)
       ⊎ ((source : Peer) × (bytes : List ℕ) × (written ≡ kept ++ events.Control source bytes ∷ []))
 
--- The same loss, in terms of worlds. The gateway was in the world `now`. After the lost ticks, the world `before`
--- agrees with `now`, except for what was received. The gateway resumes in `before`, or in the world after a message
--- that was announced, but was neither handled nor answered.
+-- The loss of `LosesTicks`, in terms of worlds. The gateway was in the world `now`. After the lost ticks, the world
+-- `before` agrees with `now`, except for what was received. The gateway resumes in `before`, or in the world after a
+-- message that was announced, but was neither handled nor answered.
 pub record LosesSpeech (lacking : ℕ) (now resumed : World) : Type 0 where
   pub before : World
   pub ticks : ℕ
@@ -128,9 +127,9 @@ pub record Survives (setup : Setup) (durability : Durability) (w : World) (told 
       → Run (start_of setup.config) (told ++ written) others resumed
       → LosesSpeech (ticks_lacking progress) now resumed
 
--- A crash loses speech and a few ticks, and nothing else. The session may start in any world that agrees, except for
--- what was received, with the world to which the events of its journal lead. A crash during an append has the same
--- effect as a broken append: some of the lines are in the journal.
+-- A crash loses speech and a few ticks, and nothing else. The events of the session's journal lead to some world. The
+-- session may start in any world that agrees with this world, except for what was received. A crash during an append
+-- has the same effect as a broken append: some of the lines are in the journal.
 abbrev pub CrashesLoseSpeechOnly : Type 0
 CrashesLoseSpeechOnly =
     (setup : Setup) (durability : Durability) (w v : World) (told : List Event) (others : List Sent)
@@ -149,9 +148,9 @@ LivesFollow =
     ((all : List Sent) × Run (start_of config) (told ++ replicate missed events.Tick) all w)
     × AgreeExceptReceived w w
 
--- ## Cuts
+-- ## Truncated journals
 
--- These events had happened, except for RTP datagrams, by an earlier moment: before a session, or at a moment of it. A
+-- Except for RTP datagrams, exactly these events had happened by an earlier moment, before or during the session. A
 -- message that was announced at that moment may follow.
 abbrev pub WereTold : (told : List Event) → (front : List TraceEntry) → List Event → Type 0
 WereTold told front first =
@@ -161,8 +160,8 @@ WereTold told front first =
     ⊎ ((source : Peer) × (bytes : List ℕ)
     × (first ≡ (told ++ without_rtp (events_of_trace past)) ++ events.Control source bytes ∷ []))))
 
--- Wherever the text of a journal is cut off, its complete lines are a script of its first events, which had happened by
--- some moment.
+-- Wherever the text of a journal is truncated, its complete lines are a script of its first events. These events had
+-- happened by some moment.
 abbrev pub AnyCutIsAMoment : Type 0
 AnyCutIsAMoment =
     (setup : Setup) (durability : Durability) (w : World) (told : List Event)
@@ -172,8 +171,8 @@ AnyCutIsAMoment =
     → (first : List Event) × (others : List Event) × IsScriptOf text (first ++ others)
     × IsScriptOf (whole_lines cut) first × WereTold told front first
 
--- A gateway that resumes from these events is in the world of a moment of the session, except for what was received, or
--- in the world after a message that was announced at that moment.
+-- A gateway that resumes from these events is in the world of some moment of the session, except for what was received.
+-- It may also be in the world after a message that was announced at that moment.
 pub record ResumesAt (config : Config) (w : World) (front : List TraceEntry) (first : List Event)
     : Type 0 where
   pub past : List TraceEntry
@@ -185,7 +184,8 @@ pub record ResumesAt (config : Config) (w : World) (front : List TraceEntry) (fi
   pub resumes : (resumed : World) (others : List Sent)
       → Run (start_of config) first others resumed → LosesSpeech 0 then resumed
 
--- A gateway that resumes from a journal that was cut off is in the state of some moment before the session or in it.
+-- A gateway that resumes from a truncated journal is in the state of some moment before or during the session, except
+-- for what was received.
 abbrev pub CutsResumeAMoment : Type 0
 CutsResumeAMoment =
     (setup : Setup) (durability : Durability) (w v : World) (told : List Event) (others : List Sent)

@@ -1,4 +1,4 @@
--- The lines that a session appends to its journal, and the times at which it does.
+-- The lines that a session appends to its journal, and when it appends them.
 use Rattle.std.specs.Prelude.{◌≡◌, ◌⊎◌, ℕ, ◌+◌, ◌^◌, ◌<◌, Bool, true, false, List, [], ◌∷◌}
 use Rattle.std.specs.Prelude.{Option, Some, None, Result, Ok, Err}
 use Rattle.std.specs.List.{list_any}
@@ -17,8 +17,8 @@ abbrev pub is_append : Call → Bool
 is_append (Append lines durability result) = true
 is_append _ = false
 
--- How far the journal lags behind the events. It lacks this many ticks, or it has everything and its last line
--- announces a message that is handled next.
+-- How far the journal lags behind the events. Either it lacks this many ticks, or it has everything, and its last line
+-- announces the message that is handled next.
 pub data Progress : Type 0 where
   Lacks : (ticks : ℕ) → Progress
   Announces : (source : Peer) (bytes : List ℕ) → Progress
@@ -39,8 +39,8 @@ AppendsLines durable lacking lines durability result next =
     × (lines ≡ event_line (events.Control source bytes)) × (durability ≡ durable)
     × (next ≡ after_append result (Announces source bytes) (Lacks 0)) × IsDatagram source bytes)
 
--- The progress after an entry of a trace. A message is handled only after it was announced, and then at once. After
--- each tick, the journal lacks one more tick.
+-- The progress after an entry of a trace. A message is handled only directly after it was announced. After each tick,
+-- the journal lacks one more tick.
 abbrev pub Advances : Durability → Progress → TraceEntry → Progress → Type 0
 Advances durable (Announces source bytes) entry next =
     (entry ≡ Happened (events.Control source bytes)) × (next ≡ Lacks 0)

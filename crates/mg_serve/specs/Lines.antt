@@ -30,7 +30,7 @@ prints form Quit = false
 prints form Unknown = true
 prints form command = is_recording form
 
--- Something is printed for the last of these commands.
+-- Something is printed for the last command in the list.
 pub record LastPrints (form : Form) (commands : List Command) : Type 0 where
   pub front : List Command
   pub command : Command

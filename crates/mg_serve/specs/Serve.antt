@@ -28,7 +28,7 @@ use Rattle.mg_serve.specs.Setup.{Setup}
 use Rattle.mg_serve.specs.Trace.{TraceEntry, Printed, Noted, calls_of, output_of}
 
 -- The reason why a source has no more commands. If the run succeeded, the source is exhausted. On `Read`, the source
--- couldn't be read. On `Write`, printing failed, for the last command or at the start. On any other error, nothing was
+-- couldn't be read. On `Write`, printing failed at the start or for the last command. On any other error, nothing was
 -- executed.
 abbrev pub Exits : {T : Type 0} → Result T RunFault → (over unread none printed : Type 0) → Type 0
 Exits (Ok value) over unread none printed = over
@@ -37,9 +37,9 @@ Exits (Err faults.Write) over unread none printed = none ⊎ printed
 Exits (Err (faults.Script number)) over unread none printed = ⊥
 Exits (Err fault) over unread none printed = none
 
--- Text was read. The commands come from its lines before the first `quit` or, if printing failed, from only the first
--- of these lines. If the run succeeded, no line is left: the input ended, or everything that follows comes after a
--- `quit`. If the input couldn't be read, all lines that were read completely were executed.
+-- Text was read. The commands come from its lines before the first `quit` or, if printing failed, from a prefix of
+-- these lines. If the run succeeded, no line is left: the input ended, or everything that follows comes after a `quit`.
+-- If the input couldn't be read, all lines that were read completely were executed.
 pub record ReadCommands {T : Type 0} (form : Form) (old new : Option (List ℕ))
     (result : Result T RunFault) (commands : List Command) : Type 0 where
   pub text : List ℕ
@@ -64,7 +64,7 @@ commands_of steps = flat_map step_commands steps
 
 -- The commands belong to the steps of a clock: to its ticks, each when it was due, and to messages in between. The run
 -- never succeeds. On `Read`, the clock couldn't be read or will never reach the next tick, or 2^64 - 1 steps were
--- taken. If printing failed for a command, at most one tick was left.
+-- taken. If printing failed for a command, at most one tick was not executed.
 pub record ClockCommands (form : Form) (allowed : ℕ) (old new : ClockSeen) (fails : Type 0)
     (result : Result Counts RunFault) (commands : List Command) : Type 0 where
   pub steps : List Step
@@ -101,7 +101,7 @@ Opens title (Err faults.NoMemory) first = first ≡ []
 Opens title (Err faults.BadConfig) first = first ≡ []
 Opens title result first = first ≡ opening title
 
--- Everything to be printed was printed or, if printing failed, a proper prefix of it.
+-- All of the text was printed. If printing failed, only a proper prefix of the text was printed.
 abbrev pub IsOutput : Result Counts RunFault → List ℕ → Option (List ℕ) → Option (List ℕ) → Type 0
 IsOutput (Err faults.Write) text old new = WritesFront text old new
 IsOutput _ text old new = Appends old new text

@@ -22,7 +22,7 @@ use Rattle.mg_serve.specs.declared.command.Command.TheVariants.{Poll, Tick, Stat
 use Rattle.mg_serve.specs.Setup.{Setup, is_admitted}
 use Rattle.mg_serve.specs.Trace.{TraceEntry, Called, Happened, Printed, Noted, Stale}
 
--- The effects of the elements of a list, one after another, each in the world that the previous one left.
+-- The effects of the elements of a list, one after another, each in the world that the previous element left.
 abbrev pub Each : {A : Type 0} → (A → World → List TraceEntry → World → Type 0) → List A → World
     → List TraceEntry → World → Type 0
 Each R [] w trace next = (trace ≡ []) × (next ≡ w)
@@ -31,7 +31,7 @@ Each R (x ∷ xs) w trace next =
     × (trace ≡ first ++ others)
     × R x w first mid × Each R xs mid others next
 
--- ## One event
+-- ## An event
 
 -- The call that sends a datagram. An answer is sent on socket 0, and a packet on the socket of the slot that has the
 -- packet's port. The port of each packet belongs to a slot.
@@ -54,8 +54,8 @@ abbrev pub event_at : Setup → ℕ → Peer → List ℕ → Event
 event_at setup zero source bytes = events.Control source bytes
 event_at setup (suc s) source bytes = events.Media (slot_port (limits_of setup.config) s) source bytes
 
--- If there is not enough memory to read a control datagram, the datagram is not an event, and this
--- is noted.
+-- If there is not enough memory to read a control datagram, the datagram is not an event, and the trace has a note
+-- about this.
 abbrev pub LacksMemory : World → List TraceEntry → World → Type 0
 LacksMemory w trace next =
     (trace ≡ Noted (codes "no memory for a control datagram") ∷ []) × (next ≡ w)
@@ -65,12 +65,12 @@ abbrev pub IsAppended : TraceEntry → Type 0
 IsAppended (Called (Append lines durability (Ok done))) = Unit {0}
 IsAppended entry = ⊥
 
--- The line that is appended before an event: the one for ticks that have passed, or the event's own line.
+-- The line that is appended before an event: the line for ticks that have passed, or the event's own line.
 abbrev pub ArePreceding : Event → List ℕ → Type 0
 ArePreceding event lines =
     ((ticks : ℕ) × (lines ≡ ticks_line ticks)) ⊎ (lines ≡ event_line event)
 
--- If an append fails, the control datagram is not an event, and this is noted.
+-- If an append fails, the control datagram is not an event, and the trace has a note about this.
 abbrev pub LacksJournal : Event → World → List TraceEntry → World → Type 0
 LacksJournal event w trace next =
     (lines : List ℕ) × (durability : Durability) × (fault : AppendFault)
@@ -78,7 +78,7 @@ LacksJournal event w trace next =
     ∷ Noted (codes "no journal for a control datagram") ∷ [])
     × (next ≡ w) × ArePreceding event lines
 
--- The event happens after some appends, unless one of these fails. Only a control datagram is appended.
+-- The event happens after some appends, unless an append fails. Only a control datagram is appended.
 abbrev pub HandlesDatagram : Setup → ℕ → Event → World → List TraceEntry → World → Type 0
 HandlesDatagram setup zero event w trace next =
     (appended : List TraceEntry) × (others : List TraceEntry)
@@ -86,8 +86,9 @@ HandlesDatagram setup zero event w trace next =
     × (HandlesEvent setup event w others next ⊎ LacksJournal event w others next)
 HandlesDatagram setup (suc s) event w trace next = HandlesEvent setup event w trace next
 
--- The effect of a datagram. If its sender is admitted, it is an event, unless there is no memory for it or it is stale.
--- `IsFenced` determines which control datagrams are stale. A datagram is ignored if its sender isn't admitted.
+-- The effect of a datagram. If its sender is admitted, the datagram is an event, unless memory runs out, an append
+-- fails, or the datagram is stale. `IsFenced` determines which control datagrams are stale. A datagram is ignored if
+-- its sender isn't admitted.
 abbrev pub Becomes : (admitted : Bool) → Setup → ℕ → Peer × List ℕ → World → List TraceEntry → World
     → Type 0
 Becomes true setup socket datagram w trace next =

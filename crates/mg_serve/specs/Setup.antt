@@ -12,9 +12,9 @@ use Rattle.mg_core.specs.World.{World}
 use Rattle.mg_fence.specs.declared.fence.Fence.{Fence}
 use Rattle.mg_journal.specs.declared.durability.Durability.{Durability}
 
--- The setup of a session: the gateway's configuration, the addresses of its controllers, whether callers use symmetric
--- RTP, the durability with which messages are appended to the journal, if there is one, and the fence at the start, if
--- there is one.
+-- The setup of a session: the gateway's configuration, the addresses of its controllers, and whether callers use
+-- symmetric RTP. If there is a journal, `journal` is the durability with which messages are appended. If there is a
+-- fence, `fence` is its state at the start.
 pub record Setup : Type 0 where
   pub config : Config
   pub controllers : List (List ℕ)
@@ -22,7 +22,7 @@ pub record Setup : Type 0 where
   pub journal : Option Durability
   pub fence : Option Fence
 
--- Control messages are accepted from the listed addresses, or from any address if none is listed.
+-- Whether control messages from an address are accepted: the address is listed, or no address is listed.
 abbrev pub may_command : List (List ℕ) → List ℕ → Bool
 may_command controllers address =
     length controllers == 0 || list_any (λ (listed : List ℕ). bytes_eq listed address) controllers

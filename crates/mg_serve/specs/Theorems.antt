@@ -41,14 +41,14 @@ SessionsAreRuns =
 abbrev pub recorded : List ℕ → List TraceEntry → List ℕ
 recorded title trace = output_of Recording (opening (Some title) ++ trace)
 
--- A recording of a session is a script of its events. Wherever it is cut off, its complete lines
--- are a script of its first events.
+-- A recording of a session is a script of its events.
 abbrev pub SessionsAreReadBack : Type 0
 SessionsAreReadBack =
     (setup : Setup) (title : List ℕ) (commands : List Command) (next : World) (trace : List TraceEntry)
     → IsValidConfig setup.config → Session setup commands (start_of setup.config) trace next
     → script.events_of (lines_of true (recorded title trace)) ≡ Some (events_of_trace trace)
 
+-- Wherever the recording of a session is truncated, its complete lines are a script of its first events.
 abbrev pub CutSessionsAreReadBack : Type 0
 CutSessionsAreReadBack =
     (setup : Setup) (title : List ℕ) (commands : List Command) (next : World) (trace : List TraceEntry)
@@ -57,9 +57,8 @@ CutSessionsAreReadBack =
     → (first : List Event) × (others : List Event) × (events_of_trace trace ≡ first ++ others)
     × (script.events_of (lines_of false front) ≡ Some first)
 
--- A run over a script wrote the lines for the datagrams that a run over a session's events sends.
--- These are the datagrams that the session sent. The run over the script ended in the session's
--- world.
+-- A run over a script wrote the lines for the datagrams that a session sent, and ended in the session's world. The
+-- session sent the datagrams that a run over its events sends.
 pub record WroteWhatWasSent (setup : Setup) (trace : List TraceEntry) (next last : World)
     (old new : Option (List ℕ)) : Type 0 where
   pub session : SendsAreARun setup (start_of setup.config) trace next

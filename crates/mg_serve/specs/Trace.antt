@@ -9,8 +9,8 @@ use Rattle.mg_ports.specs.declared.call.Call.{Call}
 use Rattle.mg_serve.specs.declared.form.Form.{Form}
 use Rattle.mg_serve.specs.declared.form.Form.TheVariants.{Plain, Recording}
 
--- An entry of a trace: the gateway calls its ports, an event happens, the gateway prints text for its driver, it notes
--- text that is printed only in a recording, or it drops a stale control datagram.
+-- An entry of a trace. The gateway calls its ports, an event happens, or the gateway drops a stale control datagram. Or
+-- the gateway prints text: `Printed` text is for its driver, and `Noted` text is printed only in a recording.
 pub data TraceEntry : Type 0 where
   Called : (call : Call) → TraceEntry
   Happened : (event : Event) → TraceEntry

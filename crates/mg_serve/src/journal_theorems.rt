@@ -22,9 +22,9 @@ pub fn nothing_answered_is_forgotten()
 
 /// A crash loses speech and a few ticks, and nothing else.
 ///
-/// Running the journal's events leads to a world that agrees with the one before the crash, except for received RTP and
-/// the last ticks, which the journal lacked. A message that had been appended but not handled yet, and so not answered,
-/// is run too. The same holds each time a gateway resumes from its journal.
+/// Running the journal's events leads to a world that agrees with the world before the crash, except for received RTP
+/// and the last ticks, which the journal lacked. A message that had been appended, but neither handled nor answered, is
+/// run too. The same holds each time a gateway resumes from its journal.
 pub fn crashes_lose_speech_only()
     ensures crash { CrashesLoseSpeechOnly }
     ensures lives { LivesFollow }
@@ -35,12 +35,12 @@ pub fn crashes_lose_speech_only()
     crate::theorems::sessions_are_runs();
 }
 
-/// A journal describes a moment, wherever it is cut off.
+/// A journal describes a moment, wherever it is truncated.
 ///
-/// If a journal is cut off after any byte, for example by a power cut, its complete lines contain the events up to an
-/// earlier moment. They may end with a message that had been appended but not handled yet. A gateway that resumes from
-/// these lines is in the state of that moment, except for received RTP. If messages are synced, that moment isn't
-/// earlier than the last answer.
+/// If a journal is truncated after any byte, for example by a power cut, its complete lines contain the events up to an
+/// earlier moment. These lines may end with a message that had been appended but not handled yet. A gateway that
+/// resumes from these lines is in the state of that moment, except for received RTP. If messages are synced, that
+/// moment isn't earlier than the last answer.
 pub fn any_cut_is_a_moment()
     ensures cut { AnyCutIsAMoment }
     ensures resumes { CutsResumeAMoment }

@@ -23,8 +23,8 @@ use std::marker::Model;
 /// a broken rule only after the journal has the tick after the message.
 const TOGETHER: u64 = 10;
 
-/// The state of a session's journal and of its fence, if it has them: the number of ticks that the journal lacks, and
-/// the highest number of the messages that were run.
+/// The state of a session's journal and fence: the number of ticks that the journal lacks, and the highest number of
+/// the messages that were run. A session may have no journal, and no fence.
 ///
 /// A message is appended before it is handled. Ticks are appended five times a second, and before each message.
 #[derive(Drop)]
@@ -50,7 +50,7 @@ impl Model for Journaling {
     ghost invariant = { λ j. (j.untried ≤ j.lacking) × (j.untried < 10) };
 }
 
-/// Returns the fence after a message with this number was run, if there is a fence.
+/// Returns the fence after a message with this number was run, or `None` if there is no fence.
 fn raised_by(number: Option<u32>, fence: Option<Fence>) -> Option<Fence>
     ensures value { result ≡ option_map (raised_by number) fence }
 {
@@ -94,8 +94,8 @@ fn append_line<P: Ports>(ports: &mut P, ticks: u64, failed: &mut u64) -> Result<
 }
 
 impl Journaling {
-    /// Starts with a journal that isn't missing any ticks. Messages are appended with this durability; `None` means
-    /// that there is no journal. No other call allocates.
+    /// Starts with a journal that lacks no ticks. Messages are appended with this durability; `None` means that there
+    /// is no journal. No other call allocates.
     pub fn new(
         alloc: Global,
         durability: Option<Durability>,
@@ -167,7 +167,7 @@ impl Journaling {
         Ok(())
     }
 
-    /// Appends a line for the ticks that the journal lacks, if there are any.
+    /// If the journal lacks ticks, appends a line for these ticks.
     fn append_lacking<P: Ports>(&mut self, ports: &mut P) -> Result<(), AppendFault>
         requires journal { IsSome self.old.durability }
         ensures few { self.new.lacking ≤ self.old.lacking }

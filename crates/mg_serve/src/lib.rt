@@ -1,7 +1,8 @@
 //! A gateway on UDP ports, driven by lines or by a clock.
 //!
 //! The command `poll` receives the datagrams that arrived at the ports, and `tick` advances by 20 ms and sends the
-//! packets. `stats` prints the counts, and `quit` ends the run. Whatever writes the lines acts as the gateway's clock.
+//! packets. `stats` prints the counts, and `quit` ends the run. The program that writes the lines acts as the gateway's
+//! clock.
 //!
 //! ```rust
 //! let counts = serve(alloc, &setup, core, None, &mut ports, &mut input, &mut output, &mut monitor)?;
@@ -9,9 +10,9 @@
 //!
 //! [`serve`] is proved for any [`Ports`](mg_ports::Ports). On return, the complete lines that it read and their effects
 //! form a session (`specs/Session.antt`). So it reads the ports in order, and sends each answer and each packet once.
-//! It drops a datagram only for a reason that the definition names: the datagram came from a stranger, memory ran out,
-//! or the journal failed. [`theorems`] goes further: a session sends what a run of its events sends, and reading its
-//! recording back yields the same events.
+//! It drops a datagram only for a reason that the definition names: the datagram came from a stranger or didn't pass
+//! the fence, memory ran out, or the journal failed. [`theorems`] goes further: a session sends what a run of its
+//! events sends, and reading its recording back yields the same events.
 #![tactic(auto)]
 
 mod clock_driver;

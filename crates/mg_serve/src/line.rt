@@ -3,8 +3,8 @@ ghost use Rattle.std.specs.Prelude.{◌≡◌, ◌++◌, ◌∷◌, [], take};
 use arrayvec::ArrayVec;
 use std::marker::Model;
 
-/// The first 8 bytes of a line of any length. Every command is shorter than that, so a longer line is never mistaken
-/// for one.
+/// The first 8 bytes of a line of any length. Every command is shorter than 8 bytes, so a longer line is never mistaken
+/// for a command.
 #[derive(Drop)]
 pub struct Line {
     text: ArrayVec<u8, 8>,
@@ -27,7 +27,7 @@ impl Line {
         }
     }
 
-    /// Appends a byte to the line, which keeps only the first 8.
+    /// Appends a byte to the line, which keeps only its first 8 bytes.
     pub fn push(&mut self, b: u8)
         ensures value { self.new ≡ take 8 (self.old ++ b ∷ []) }
     {

@@ -47,7 +47,7 @@ impl<'a, M: Monitor> LineDriver<'a, M> {
         })
     }
 
-    /// Executes the partial line, which ends here. Returns whether the line is `quit`.
+    /// Executes the partial line, which is now complete. Returns whether the line is `quit`.
     fn end_line<P: Ports, W: Write>(
         &mut self,
         alloc: Global,

@@ -107,7 +107,7 @@ fn is_remote(remote: Option<Chosen>, peer: Peer) -> bool
     }
 }
 
-/// Exposes the bounds of a datagram's parts, which their types imply, to a proof. Has no effect.
+/// Exposes to a proof the bounds that the types of a datagram's parts imply. Has no effect.
 ///
 /// The proof of a generic function can't use the bounds that the type of a local variable implies.
 fn parts_fit(address: &[u8], port: u16, bytes: &[u8])
@@ -127,7 +127,8 @@ fn media_port(setup: &Setup<'_>, socket: u16) -> u16
 }
 
 impl<'a, M: Monitor> Server<'a, M> {
-    /// Creates a server with a gateway, watched by a monitor. The journal, if there is one, isn't missing any ticks.
+    /// Creates a server with a gateway and a monitor that watches the server. The journal, if there is one, lacks no
+    /// ticks.
     pub fn new(
         alloc: Global,
         core: Core,
@@ -173,8 +174,8 @@ impl<'a, M: Monitor> Server<'a, M> {
         Ok(())
     }
 
-    /// Appends a control datagram to the journal, if there is one. Then runs it, and sends its answer. A datagram that
-    /// doesn't pass the fence is dropped.
+    /// Drops a control datagram that doesn't pass the fence. Otherwise appends it to the journal, if there is one, then
+    /// runs it and sends its answer.
     fn take_control<P: Ports, W: Write>(
         &mut self,
         alloc: Global,

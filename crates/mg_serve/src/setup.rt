@@ -32,9 +32,9 @@ impl<'a> Model for Setup<'a> {
 
 impl<'a> Setup<'a> {
     /// Creates the setup of a session with this configuration. Only these IPv4 addresses may send control messages; if
-    /// there are none, any address may. With symmetric RTP (RFC 4961), a termination's packets are accepted only from
-    /// the address and port of its Remote. If there is a journal, messages are appended to it with this durability. If
-    /// a fence is given, the session starts with it.
+    /// the list is empty, any address may. With symmetric RTP (RFC 4961), a termination's packets are accepted only
+    /// from the address and port of its Remote. If there is a journal, messages are appended to it with this
+    /// durability. If a fence is given, the session starts with it.
     pub fn new(
         config: Config,
         controllers: &'a [[u8; 4]],

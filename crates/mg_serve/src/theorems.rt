@@ -3,10 +3,10 @@
 ghost use Rattle.mg_serve.specs.FenceLaws.{NoLowerNumberIsRun};
 ghost use Rattle.mg_serve.specs.Theorems.{SessionsAreRuns, SessionsAreReadBack, CutSessionsAreReadBack, ReplaysAreTheSession};
 
-/// A controller that was replaced by another one can't command the gateway any more.
+/// A controller that has been replaced can't command the gateway any more.
 ///
-/// After a message with a number was run, no message with a lower number is run behind a fence: neither in this life of
-/// the gateway nor in a later one that resumes from its journal, unless an operator has set the fence since. The
+/// After a message with a number was run, no message with a lower number is run behind a fence, unless an operator has
+/// set the fence since. This holds in this life of the gateway, and in later lives that resume from its journal. The
 /// contracts of [`serve`](crate::serve) and [`serve_by_clock`](crate::serve_by_clock) guarantee that a session is
 /// fenced.
 pub fn no_lower_number_is_run()

@@ -15,7 +15,7 @@ pub struct TickReport<'a> {
     pub unread: u64,
     /// Control datagrams that were dropped because they didn't pass the fence.
     pub stale: u64,
-    /// The fence after all messages so far, if there is one.
+    /// The fence after all messages so far, or `None` if there is no fence.
     pub fence: Option<Fence>,
     /// The failed receives and sends since the start, by cause.
     pub failures: FailureCauses,

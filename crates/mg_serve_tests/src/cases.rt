@@ -7,8 +7,8 @@ use std::alloc::Global;
 use std::io;
 use std::process::Abort;
 
-/// A session and its expected outcome. An expected text that ends with `..` is only the beginning of the text, and one
-/// that begins with `..` is only its end.
+/// A session and its expected outcome. If an expected text ends with `..`, only the start of the actual text is
+/// compared with it. If it begins with `..`, only the end is compared.
 #[derive(Drop)]
 pub struct Case<'a> {
     pub name: &'a str,
@@ -33,8 +33,8 @@ pub const CASE: Case<'static> = Case {
     last_head: b"..",
 };
 
-/// Returns `wanted` if the text is as expected, and the text otherwise. If `wanted` ends with `..`, it is only the
-/// beginning of the text; if it begins with `..`, it is only the end.
+/// Returns `wanted` if the text is as expected, and the text otherwise. If `wanted` ends with `..`, only the start of
+/// the text is compared with it. If `wanted` begins with `..`, only the end is compared.
 pub fn compared<'a>(text: &'a [u8], wanted: &'a [u8]) -> &'a [u8] {
     let dots = b"..".as_slice();
     let is_as_wanted = if let Some(start) = wanted.strip_suffix(dots) {
@@ -80,7 +80,7 @@ fn compare(rt: &impl Abort, case: &Case<'_>, outcome: &Outcome) {
     );
 }
 
-/// Plays each session. Ends the test unless each one had its expected outcome.
+/// Plays each session. Ends the test unless each session had its expected outcome.
 pub fn play_all(rt: &impl Abort, alloc: Global, cases: &[Case<'_>]) -> io::Result<()> {
     for case in cases {
         let outcome = play(alloc, &case.session)?;

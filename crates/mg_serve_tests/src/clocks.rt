@@ -33,7 +33,7 @@ impl Watch for LateClock {
     }
 }
 
-/// A clock that advances by the same time, in microseconds, at each reading. If it has no step, it can't be read.
+/// A clock that advances by the same time, in microseconds, at each reading. A clock without a step can't be read.
 #[derive(Drop)]
 pub struct SteadyClock {
     now: Cell<u64>,

@@ -19,8 +19,8 @@ const RECORDED: Session<'static> = Session {
     ..SESSION
 };
 
-/// A recorded session and its expected outcome. An expected text that ends with `..` is only the beginning of the text,
-/// and one that begins with `..` is only its end.
+/// A recorded session and its expected outcome. If an expected text ends with `..`, only the start of the actual text
+/// is compared with it. If it begins with `..`, only the end is compared.
 #[derive(Drop)]
 struct Case<'a> {
     name: &'a str,
@@ -30,7 +30,7 @@ struct Case<'a> {
     comments: &'a [u8],
     /// The start of the journal's text.
     start: &'a [u8],
-    /// The number of lines in the journal's text, and the number of them that are synced.
+    /// The number of lines in the journal's text, and the number of synced lines.
     lines: usize,
     synced: usize,
     /// The events of the recording after those of the journal's text, or `OTHERS` if the journal has other events.
@@ -219,7 +219,7 @@ const CASES: &[Case<'static>] = &[
     },
 ];
 
-/// Returns a text's comment lines, or its other lines.
+/// Returns only the comment lines of the text, or only its other lines.
 fn lines_of(alloc: Global, text: &[u8], comments: bool) -> Result<Vec<u8>, AllocError> {
     let mut kept = Vec::new(alloc);
     for line in text.split(|b| *b == b'\n') {
@@ -231,7 +231,7 @@ fn lines_of(alloc: Global, text: &[u8], comments: bool) -> Result<Vec<u8>, Alloc
     Ok(kept)
 }
 
-/// Returns the lines of a text, with a line `tick` for each tick that a line counts.
+/// Returns the text without its empty lines. A line such as `ticks 12` is replaced by twelve lines `tick`.
 fn uncounted(alloc: Global, text: &[u8]) -> Result<Vec<u8>, AllocError> {
     let mut lines = Vec::new(alloc);
     for line in text.split(|b| *b == b'\n') {

@@ -106,7 +106,7 @@ fn header(ssrc: u32, sequence: u16) -> Header {
     }
 }
 
-/// Counts the packets of a step. Returns the expected count and the actual count, if the step has an expected count.
+/// Counts the packets of a step. If the step has an expected count, returns this count and the actual count.
 fn take(loss: &mut Loss, step: Step) -> Option<(u64, u64)> {
     let (first, count, change) = match step {
         One(sequence) => (sequence, 1, 0),

@@ -19,8 +19,8 @@ const THIRD: Peer = Peer {
     port: 40000,
 };
 
-/// A message that creates a termination, whose Remote is port 40000 of 127.0.0.1. Packets arrive at its port from ports
-/// 40000 and 40001, and at a port without a termination.
+/// A message that creates a termination, whose Remote is port 40000 of 127.0.0.1. Packets arrive at the termination's
+/// port from ports 40000 and 40001. Another packet arrives at a port without a termination.
 const REMOTES: &[(usize, Peer, &[u8])] = &[
     (
         0,
@@ -48,7 +48,7 @@ const CALL: &[(usize, Peer, &[u8])] = &[(0, CALLER, ADD), (1, CALLER, b"x"), (2,
 /// A datagram at a port without a termination.
 const STRAY: (usize, Peer, &[u8]) = (1, CALLER, b"x");
 
-/// A session in which 15 receives and sends are made.
+/// A session with 15 receives and sends.
 const CALLS: Session<'static> = Session {
     waiting: &[
         (0, CALLER, ADD),
@@ -276,7 +276,7 @@ const CASES: &[Case<'static>] = &[
     },
 ];
 
-/// An input, given as in a session, the expected counts of lines and ticks, and the expected output.
+/// An input in the form of a session's lines, the expected counts of lines and of ticks, and the expected output.
 type Input<'a> = (&'a [(usize, &'a [u8])], u64, u64, &'a [u8]);
 
 const INPUTS: &[Input<'static>] = &[

@@ -33,7 +33,7 @@ pub const HEARTBEAT: &[u8] =
 /// A session: its setup, the datagrams that arrive, the calls that fail, and the lines that drive it.
 #[derive(Drop)]
 pub struct Session<'a> {
-    /// The addresses that may send messages. If there are none, any address may.
+    /// The addresses that may send messages. If the list is empty, any address may send messages.
     pub controllers: &'a [[u8; 4]],
     pub symmetric_rtp: bool,
     pub journal: Option<Durability>,
@@ -51,7 +51,7 @@ pub struct Session<'a> {
     pub packets: &'a [u8],
     /// The numbers of the receives and sends that fail.
     pub failing: &'a [u64],
-    /// The calls on the journal's file that fail: their kind, the number of the first one, and the number of calls.
+    /// The calls on the journal's file that fail: their kind, the number of the first call, and the number of calls.
     pub faults: &'a [(FileCall, u64, u64)],
     /// The parts of the input, each with the number of its repetitions.
     pub lines: &'a [(usize, &'a [u8])],
@@ -125,7 +125,7 @@ fn core(alloc: Global, config: Config) -> Result<Core, AllocError>
     }
 }
 
-/// Returns the texts one after another, each repeated as often as the number in front of it says.
+/// Joins the texts. Each text is repeated as often as the number in front of it says.
 pub fn repeated(alloc: Global, parts: &[(usize, &[u8])]) -> Result<Vec<u8>, AllocError> {
     let mut text = Vec::new(alloc);
     for (count, part) in parts {
@@ -186,7 +186,7 @@ fn ports_for(alloc: Global, session: &Session<'_>) -> io::Result<FakePorts> {
     Ok(FakePorts::new(alloc, arrivals, session.failing.to_vec(alloc)?).with_journal(journal))
 }
 
-/// Returns the number of occurrences of a byte in a text.
+/// Returns the number of occurrences of a byte in the text.
 pub fn count(text: &[u8], byte: u8) -> usize {
     text.iter().filter(|b| **b == byte).count()
 }

@@ -34,7 +34,7 @@ feed_after front text = subst EndsInLineFeed (append_assoc front text (10 ∷ []
 pub title_feed : (config : Config) → EndsInLineFeed (title_line config)
 title_feed config = feed_after (codes "# ") (title_text config)
 
--- The text is a line or more, and ends with a line feed.
+-- The text isn't empty, and ends with a line feed.
 abbrev Ends : List ℕ → Type 0
 Ends text = (line : List ℕ) × (text ≡ line ++ 10 ∷ [])
 
@@ -76,7 +76,7 @@ start_appended (Ok done) missed fence lines old new is appends =
     appends.1 ∙ ap (λ (l : List ℕ). appended l Written old) is
 start_appended (Err fault) missed fence lines old new is appends = tt
 
--- The pieces of the lines for missed ticks, appended one after another.
+-- If the pieces of the lines for missed ticks are appended one after another, exactly these lines are appended.
 pub missed_extended : (missed : ℕ) (a b c d e digits line : List ℕ) → (missed == 0) ≡ false → b ≡ a ++ codes "# missed "
     → c ≡ b ++ digits → d ≡ c ++ codes " ticks\n" → e ≡ d ++ line → digits ≡ decimal missed → line ≡ ticks_line missed
     → e ≡ a ++ missed_lines missed

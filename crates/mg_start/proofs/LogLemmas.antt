@@ -114,13 +114,13 @@ pub fails_then : {A E : Type 0} (a b c : Option (List HostCall)) (lines more : L
 fails_then a b c lines more (Ok done) written logs = tt
 fails_then a b c lines more (Err fault) written logs = written_then a b c lines written logs
 
--- The first lines that are appended start no session, whether or not the journal is new.
+-- Appending the first lines runs no session, whether or not the journal is new.
 pub first_quiet : {A E : Type 0} (a b : Option (List HostCall)) (is_new : Bool) (lines more : List ℕ) (result : Result A E)
     → (is_new ≡ true → Logs a b lines result) → (is_new ≡ false → Logs a b more result) → RunsNoSession a b
 first_quiet a b true lines more result new old = logs_quiet a b lines result (new refl)
 first_quiet a b false lines more result new old = logs_quiet a b more result (old refl)
 
--- Reading the date before calls that run no session runs no session.
+-- If the date is read before calls that run no session, still no session runs.
 pub dated_quiet : (a b c : Option (List HostCall)) (millis : Option ℕ) → Grows a b (ReadDate millis ∷ [])
     → RunsNoSession b c → RunsNoSession a c
 dated_quiet a b c millis grows (p, then, quiet) =

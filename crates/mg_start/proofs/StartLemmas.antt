@@ -114,7 +114,7 @@ resumes_from text rest config state reached r reaches = record {
   );
 }
 
--- Without a journal, there are no events.
+-- A journal without text has no events.
 no_events : events_of (journal_lines true []) ≡ Some []
 no_events = script_same false (lines_of true []) [] (recordings_are_read [] (All-nil IsRecorded))
 
@@ -126,7 +126,7 @@ resumes_anew config state reached stands none = record {
   resumes = ([], [], (refl, refl), both_known (Some []) [] reached no_events (reached_anew (Some []) reached refl none));
 }
 
--- The text of the journal after its title, the missed ticks and the fence were appended.
+-- After the title, the missed ticks and the fence were appended, the journal's text is `started_text`.
 writes : (timeline : Option Timeline) (config : Config) (missed : ℕ) (fence : Option ℕ) (text : Option (List ℕ))
     (journal : JournalState)
     → KeepsTimes timeline text → HasBegun (title_before timeline config) missed fence text journal
@@ -139,7 +139,7 @@ writes (Some timeline) config missed fence (Some []) journal keeps begins = absu
 writes (Some timeline) config missed fence (Some (byte ∷ text)) journal keeps begins =
     begins.text ∙ ap (λ (l : List ℕ). Some (l ++ start_lines missed fence)) (append-nil (byte ∷ text))
 
--- ## The ticks that were missed
+-- ## Missed ticks
 
 known_times : (text rest : Option (List ℕ)) (script : List ℕ) (notes : List Note) (timeline : Timeline)
     → HasRead text rest script true → notes_of (journal_lines true script) ≡ Some notes
@@ -167,12 +167,12 @@ pub times_kept : (timeline : Timeline) (text : Option (List ℕ)) → IfSome tex
 times_kept timeline None lines is = tt
 times_kept timeline (Some text) lines is = (lines, is)
 
--- The timeline of a new journal has no notes.
+-- The timeline of a new journal is the timeline after no notes.
 pub new_times : record { start = None; ticks = 0 } ≡ timeline_of (reverse [])
 unfolding timeline_of
 new_times = refl
 
--- Before a new journal begins, no ticks were missed.
+-- If the journal is empty, no ticks were missed.
 none_missed : (millis : Option ℕ) → 0 ≡ missed_after [] millis
 unfolding lines_after expanded notes_of timeline_of
 none_missed None = refl
@@ -249,7 +249,7 @@ at_byte [] k within is = absurd (omega (arith, within))
 at_byte (byte ∷ text) zero within is = ap (λ (b : ℕ). b ∷ text) (eqb-true byte 10 is)
 at_byte (byte ∷ text) (suc k) within is = ap (λ (l : List ℕ). byte ∷ l) (at_byte text k (omega (arith, within)) is)
 
--- The first line of a text that begins with `# `.
+-- If the first line of a text begins with `# `, the text consists of this line and a rest.
 first_line : (text title : List ℕ) (k : ℕ) → k < length text → (slice_index text k == 10) ≡ true
     → take k text ≡ codes "# " ++ title
     → (rest : List ℕ) × (text ≡ (codes "# " ++ (title ++ codes "\n")) ++ rest)

@@ -15,7 +15,7 @@ use Rattle.mg_core.proofs.ReadBackLemmas.{is_not}
 use Rattle.mg_serve.proofs.JournalText.{IsScriptFrom, count_script, entry_script, marked, marked_both, no_text, noted, script_more}
 use Rattle.mg_start.specs.Journal.{StartsAreRead, fence_comment, missed_lines, start_lines}
 
--- ## Comments
+-- ## Comments without a line feed inside
 
 plain_byte : (b : ℕ) → is_not 10 b ≡ true → b ≢ 10
 plain_byte b h e = true≢false (sym (eq-eqb b 10 e) ∙ not-true (eqb b 10) h)
@@ -31,7 +31,7 @@ digits_plain [] h = All-nil (λ b. b ≢ 10)
 digits_plain (d ∷ ds) h =
     All-cons (λ b. b ≢ 10) d ds (λ e. omega (arith, digit_from_value d h.0, e)) (digits_plain ds h.1)
 
--- The bytes around a number, and the number.
+-- If the bytes around a number have no line feed, the bytes and the number together have none.
 around : (front back : List ℕ) (n : ℕ) → list_all (is_not 10) front ≡ true → list_all (is_not 10) back ≡ true
     → n < 2 ^ 64 → All (λ b. b ≢ 10) (front ++ (decimal n ++ back))
 around front back n before after small =
@@ -42,7 +42,7 @@ around front back n before after small =
 number_short : (n : ℕ) → n < 2 ^ 64 → length (decimal n) ≤ 20
 number_short n small = length-decimal-le 20 n (omega arith) (omega arith) small
 
--- ## The lines
+-- ## The lines as a part of a script
 
 abbrev mark : List ℕ
 mark = codes "# counted ticks\n"

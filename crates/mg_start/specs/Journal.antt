@@ -22,12 +22,12 @@ abbrev pub missed_lines : ℕ → List ℕ
 missed_lines ticks =
     if ticks == 0 then [] else codes "# missed " ++ (decimal ticks ++ (codes " ticks\n" ++ ticks_line ticks))
 
--- The comment with which an operator sets the fence, or nothing if the operator doesn't set it.
+-- The comment with which an operator sets the fence, or nothing if the operator doesn't set the fence.
 abbrev pub fence_comment : Option ℕ → List ℕ
 fence_comment fence = option_map_or (λ n. codes "# fence " ++ (decimal n ++ codes "\n")) fence []
 
--- The lines that are appended before a gateway starts: the one behind which ticks are counted, those for missed ticks,
--- and the comment with which an operator sets the fence.
+-- The lines that are appended before a gateway starts. The first line, `# counted ticks`, marks the place behind which
+-- ticks are counted. The lines for missed ticks follow, and then the comment with which an operator sets the fence.
 abbrev pub start_lines : (missed : ℕ) → (fence : Option ℕ) → List ℕ
 start_lines missed fence =
     codes "# counted ticks\n" ++ (missed_lines missed ++ fence_comment fence)
@@ -59,8 +59,8 @@ IsQuiet (call ∷ calls) = ⊥
 abbrev pub RunsNoSession : (old new : Option (List HostCall)) → Type 0
 RunsNoSession old new = (calls : List HostCall) × Grows old new calls × IsQuiet calls
 
--- Behind a script, the lines that are appended before a gateway starts are read as the missed ticks, and ticks are
--- counted behind them.
+-- If the lines that are appended before a gateway starts follow a script, they are read as the missed ticks. Behind
+-- these lines, ticks are counted.
 abbrev pub StartsAreRead : Type 0
 StartsAreRead =
     (text : List ℕ) (told : List Event) (missed : ℕ) (fence : Option ℕ)

@@ -27,7 +27,8 @@ use Rattle.mg_arguments.specs.Given.{Agrees}
 use Rattle.mg_arguments.specs.Title.{title_line}
 use Rattle.mg_start.specs.Journal.{Writes, missed_after, start_lines}
 
--- The exit status of a run that didn't start agrees with the configuration: ports are bound only if it is valid.
+-- The exit status of a run that didn't start agrees with the configuration: ports are bound only if the configuration
+-- is valid.
 abbrev pub FailsToStart : Config → Status → Type 0
 FailsToStart config Usage = IsValidConfig config → ⊥
 FailsToStart config NoPort = IsValidConfig config
@@ -50,8 +51,8 @@ Finds (Some path) old new text =
     (bytes : List ℕ) × Grows old new (OpenJournal path (Some bytes) ∷ [])
     × IsLogged new text (whole_lines bytes)
 
--- A gateway's configuration, given the one that the options specify. If the journal is empty, numbers may be drawn.
--- Otherwise, the configuration is the one in the journal's title, and it agrees with the given options.
+-- A gateway's configuration, given the configuration that the options specify. If the journal is empty, numbers may be
+-- drawn. Otherwise, the journal's title states the configuration, which agrees with the given options.
 abbrev pub IsChosen : (text : Option (List ℕ)) → Given → Draws → (config chosen : Config) → Type 0
 IsChosen None given draws config chosen = IsDrawn draws config chosen ⊎ Agrees given config chosen
 IsChosen (Some []) given draws config chosen = IsDrawn draws config chosen
@@ -83,8 +84,8 @@ Begins (Some path) text config missed fence old new =
     × IfSome text (λ found. (missed ≡ missed_after found millis)
     × (started_text config missed fence found ≡ found ++ lines))
 
--- A gateway has started in the world `start`: it was resumed from its journal and has run the missed ticks. Its journal
--- has reached the number `reached`, and works if there is one.
+-- A gateway has started in the world `start`: it was resumed from its journal and has run the missed ticks. `reached`
+-- is the number that its journal has reached. If there is a journal, it works.
 pub record HasStarted (journal text : Option (List ℕ)) (fence : Option ℕ) (config : Config)
     (start : World) (reached : ℕ) (before : JournalState) (bound begun : Option (List HostCall))
     : Type 0 where

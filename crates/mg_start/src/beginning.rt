@@ -17,9 +17,8 @@ use std::alloc::Global;
 use std::io::Write;
 use std::time::Clock;
 
-/// Starts appending to the journal, if there is one, and skips the ticks that the gateway missed. If that fails,
-/// reports the fault to `errors` and returns the program's exit status. `reached` is the number that the journal has
-/// reached.
+/// If there is a journal, starts appending to it, and skips the ticks that the gateway missed. If that fails, reports
+/// the fault to `errors` and returns the program's exit status. `reached` is the number that the journal has reached.
 pub fn begin_journal<'a, T: Dates, F: JournalFile, C: Clock, E: Write>(
     host: &mut T,
     alloc: Global,

@@ -95,7 +95,7 @@ const START_ROOM: usize = 98;
 /// The lines that are appended before a gateway starts.
 type StartLines = ArrayVec<u8, START_ROOM>;
 
-/// Appends bytes to the lines.
+/// Appends bytes to `lines`.
 fn extend(lines: &mut StartLines, text: &[u8])
     requires room { length lines.old.items + length text.now ≤ START_ROOM }
     ensures value { lines.new.items ≡ lines.old.items ++ text.now }
@@ -103,7 +103,7 @@ fn extend(lines: &mut StartLines, text: &[u8])
     let _ = lines.try_extend_from_slice(text);
 }
 
-/// Appends the lines for missed ticks to the lines.
+/// Appends the lines for missed ticks to `lines`.
 fn extend_missed(missed: u64, lines: &mut StartLines)
     requires room { length lines.old.items ≤ 16 }
     ensures value { lines.new.items ≡ lines.old.items ++ missed_lines missed }
@@ -119,7 +119,7 @@ fn extend_missed(missed: u64, lines: &mut StartLines)
     extend(lines, ticks_line(missed).as_slice());
 }
 
-/// Appends the comment that sets the fence, if an operator sets it, to the lines.
+/// If an operator sets the fence, appends the comment that sets it to `lines`.
 fn extend_fence(fence: Option<u32>, lines: &mut StartLines)
     requires room { length lines.old.items ≤ 79 }
     ensures value { lines.new.items ≡ lines.old.items ++ fence_comment fence }
@@ -163,7 +163,7 @@ fn append_start<T: Tells, J: Journal>(
     )
 }
 
-/// Appends the title, if the journal is new, and then the lines with which a gateway starts.
+/// Appends the title if the journal is new, and then appends the lines with which a gateway starts.
 fn append_first<T: Tells, J: Journal>(
     host: &mut T,
     is_new: bool,
@@ -222,9 +222,9 @@ impl<F: JournalFile> FoundJournal<F> {
         }
     }
 
-    /// Starts appending to the journal. Skips the ticks that the gateway missed, and appends the lines with which it
-    /// starts: the one behind which ticks are counted, those for missed ticks, and the number to which an operator sets
-    /// the fence, if it is given.
+    /// Starts appending to the journal, and skips the ticks that the gateway missed. Appends the lines with which the
+    /// gateway starts: `# counted ticks`, the lines for missed ticks and, if `fence` is given, the comment that sets
+    /// the fence.
     pub fn begin<'a, T: Dates, C: Clock>(
         self,
         host: &mut T,

@@ -47,7 +47,7 @@ struct Resumed<F: JournalFile> {
     reader: JournalReader,
 }
 
-/// A journal, and the gateway's state after the journal's events, or `None` if the journal is empty.
+/// A journal, and the state of its gateway after the journal's events. If the journal is empty, the state is `None`.
 #[derive(Drop)]
 pub(crate) struct Found<F: JournalFile> {
     pub opening: Opening<F>,
@@ -63,15 +63,15 @@ fn title_in(front: &[u8]) -> Option<&[u8]>
     front[..end].strip_prefix(b"# ".as_slice())
 }
 
-/// Returns whether a text is the beginning of a title, or begins like a title.
+/// Returns whether `text` is the beginning of a title, or begins like a title.
 fn may_be_title(text: &[u8]) -> bool
     ensures value { result ≡ may_be_title text.now }
 {
     text.starts_with(TITLE_START) || TITLE_START.starts_with(text)
 }
 
-/// Checks that a file without a complete line is empty, or that its title wasn't written completely. The rest of the
-/// program cuts off such a title, and must not destroy any other file.
+/// Checks that a file without a complete line is empty, or that its title wasn't written completely. The program later
+/// removes such a title by truncating the file, and must not destroy any other file.
 fn check_partial<F: JournalFile>(opening: &mut Opening<F>) -> Result<(), JournalFault>
     ensures same { opening.new ≡ opening.old }
     ensures title { IfOk result (λ _. IfSome opening.old.file.bytes (λ bytes.

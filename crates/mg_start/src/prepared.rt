@@ -108,8 +108,8 @@ where
     }
 }
 
-/// Resumes a gateway from its journal, or creates a new one if the journal is empty. If that fails, reports
-/// the fault to `errors` and returns the program's exit status.
+/// Resumes a gateway from its journal. If the journal is empty, creates a new gateway. If that fails, reports the fault
+/// to `errors` and returns the program's exit status.
 fn resume_or_create<G: RandomSource, F: JournalFile, E: Write>(
     random: &G,
     alloc: Global,
@@ -178,8 +178,8 @@ fn open<H: Journals>(host: &mut H, path: &FilePath) -> Result<Opening<H::File>, 
     }
 }
 
-/// Prepares a gateway: a new one, or one that resumes from the journal. If that fails, reports the fault to `errors`
-/// and returns the program's exit status.
+/// Prepares a gateway, which is new or resumes from its journal. If that fails, reports the fault to `errors` and
+/// returns the program's exit status.
 ///
 /// Nothing is sent, and nothing is written to a journal.
 pub fn prepare<H: Journals, G: RandomSource, E: Write>(

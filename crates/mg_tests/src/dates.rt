@@ -122,7 +122,7 @@ fn counts_from_the_first_date(rt: HostRuntime) -> Result<(), Fail> {
     timeline.pass_ticks(10);
     timeline.pass_comment(b"# time 2026-11-27T14:03:21.249Z");
     timeline.pass_ticks(50);
-    // At the next restart these 49 ms count as missed.
+    // At the next restart, these 49 ms count as missed.
     assert_equal(&rt, timeline.missed(after(2_249)), 2);
     Ok(())
 }

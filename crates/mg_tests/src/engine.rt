@@ -36,7 +36,7 @@ fn caller(mode: Mode, local: &[u8], remote: &[u8]) -> Result<Settings, Fail> {
     })
 }
 
-/// Returns the settings of a Modify that names a mode, a depth, both or neither.
+/// Returns the settings of a Modify with this mode and this depth, both of which are optional.
 fn changed(mode: Option<Mode>, depth: Option<u16>) -> Settings {
     Settings {
         mode,
@@ -85,7 +85,7 @@ fn add(engine: &mut Engine, target: Target, settings: &Settings) -> Result<Targe
     }
 }
 
-/// Adds one termination per mode to a new conference. They all have the same Remote.
+/// Adds one termination per mode to a new conference. All terminations have the same Remote.
 fn add_crowd(engine: &mut Engine, modes: &[Mode]) -> Result<(), Fail> {
     let mut target = Target::New;
     for mode in modes {
@@ -148,7 +148,7 @@ fn show(
 }
 
 /// Shows a scene on a new engine with one conference, which has one termination per mode. Only this function creates
-/// the engine that a test begins with: the prover takes several seconds for each function that does.
+/// the engine that a test begins with: the prover takes several seconds for each function that creates an engine.
 fn play(rt: &impl Abort, alloc: Global, scene: Scene, modes: &[Mode]) -> Result<(), Fail> {
     let mut engine = crowd(alloc, modes)?;
     show(rt, alloc, scene, &mut engine, &mut Outbox::new())
@@ -188,7 +188,7 @@ fn payloads(alloc: Global, outbox: &Outbox) -> Result<Vec<u8>, Fail> {
     Ok(bytes)
 }
 
-/// After a Move, a termination counts toward the total of its new context only.
+/// After a Move, a termination counts only toward the total of its new context.
 fn leave_the_total(rt: &impl Abort, engine: &mut Engine, outbox: &mut Outbox) -> Result<(), Fail> {
     speak(engine, outbox);
     assert_equal(rt, engine.total(1, 0), Some(32124));
@@ -211,7 +211,7 @@ fn totals_follow_a_move(rt: HostRuntime) -> Result<(), Fail> {
     play(&rt, rt.alloc(), Scene::LeaveTheTotal, &SPEAKERS)
 }
 
-/// Returns what happened to the first datagram that a port accepts, or drops for an unexpected cause. Returns `None` if
+/// Finds the first datagram that a port accepts, or drops for an unexpected cause. Returns its outcome, or `None` if
 /// there is no such datagram.
 fn first_wrong(
     engine: &mut Engine,

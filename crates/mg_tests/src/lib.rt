@@ -1,8 +1,8 @@
 //! Tests of the larger crates through their public functions.
 //!
-//! The tests are in a separate crate, because a crate with tests is proved twice, which takes longer the larger the
-//! crate is. Scripts and programs test everything that they can show (`examples`, `.ci/tests`). These tests cover the
-//! rest: counts, readers and writers that fail, and each public call of a lower crate once.
+//! A crate with tests is proved twice, which takes long if the crate is large. So these tests are in a separate crate.
+//! Scripts and programs test everything that they can show (`examples`, `.ci/tests`). These tests cover the rest:
+//! counts, readers and writers that fail, and each public call of a lower crate once.
 #![tactic(auto)]
 
 #[cfg(test)]

@@ -135,7 +135,7 @@ fn runs_messages_and_ticks(rt: HostRuntime) -> Result<(), Fail> {
     Ok(())
 }
 
-/// Runs a script with a reader that fails. Returns the output and the result of the run.
+/// Runs a script with a reader that fails after this many calls. Returns the output and the result of the run.
 fn read_in_pieces(
     alloc: Global,
     script: &[u8],
@@ -152,8 +152,8 @@ fn read_in_pieces(
     (written, outcome)
 }
 
-/// Runs a script with a writer that takes 50 bytes per call and fails. Returns the output, and the fault, or `None` if
-/// the run has no fault.
+/// Runs a script with a writer that takes 50 bytes per call and fails after this many calls. Returns the output and the
+/// fault, which is `None` if the run succeeds.
 fn write_in_pieces(alloc: Global, script: &[u8], calls: usize) -> (Vec<u8>, Option<RunFault>) {
     let mut reader = Cursor::new(script);
     let mut writer = FailingWriter::new(alloc, 50, calls);

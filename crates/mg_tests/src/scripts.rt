@@ -8,7 +8,7 @@ use std::io::{Read, Write};
 #[derive(Clone, Copy)]
 pub enum Part<'a> {
     Text(&'a [u8]),
-    /// The line of a frame that arrives at port 30000, with its source and its sequence number in hexadecimal.
+    /// The line of a frame that arrives at port 30000: its source, and its sequence number in hexadecimal.
     Frame(&'a [u8], &'a [u8]),
 }
 
@@ -42,7 +42,7 @@ fn push_parts(script: &mut Vec<u8>, part: Part, count: usize) -> Result<(), Allo
     Ok(())
 }
 
-/// Joins the parts to a script. Each part is repeated as often as its number says.
+/// Joins the parts into a script. Each part is repeated as often as its number says.
 pub fn script_of(alloc: Global, parts: &[(usize, Part)]) -> Result<Vec<u8>, AllocError> {
     let mut script = Vec::new(alloc);
     for (count, part) in parts {

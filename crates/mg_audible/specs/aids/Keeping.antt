@@ -20,13 +20,13 @@ use Rattle.mg_heard.specs.aids.Timing.{AreBegun, IsClock, Timed}
 use Rattle.mg_audible.specs.Audible.{RunsWithout}
 use Rattle.mg_audible.specs.Without.{StepWithout}
 
--- Two cores represent these worlds.
+-- The first core represents the first world, and the second core the second world.
 pub record StandForBoth (first second : CoreState) (v w : World) : Type 0 where
   pub whole : StandsFor first v
   pub without : StandsFor second w
 
--- For all worlds that two cores represent: an event has arrived at both cores, or only at the first if it is speech of
--- the talker.
+-- From all worlds that two cores represent, an event leads to worlds that the cores represent afterwards. The event
+-- arrives at both cores, or only at the first one if it is speech of the talker.
 abbrev pub LeadsBoth : ℕ → Event → (whole without whole_after without_after : CoreState) → Type 0
 LeadsBoth talker event whole without whole_after without_after =
     (v w : World) → StandForBoth whole without v w → (next : World) × (other : World)
@@ -59,7 +59,7 @@ pub record KeepsAudible (config : Config) (talker : ℕ) (notes : List Note)
   pub count : tick ≡ length past
   pub tells : TellsPast past stored Told
 
--- The state of a follower after these notes, with their dates and gaps: the clock has passed all notes, and all stored
+-- The state of a follower after these notes, with their dates and gaps. The clock has passed all notes, and all stored
 -- and reported moments are before the next tick.
 pub record KeepsTimed (config : Config) (talker : ℕ) (notes : List Note)
     (whole without : CoreState) (clock : Clock) (stored : List OpenInterval)

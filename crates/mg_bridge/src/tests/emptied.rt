@@ -1,4 +1,4 @@
-//! A test with a journal whose file another program empties.
+//! A test in which another program empties the file of a journal.
 
 use crate::machine::SystemHost;
 use mg_host::Journals;

@@ -19,7 +19,7 @@ called w r = record r {
   };
 }
 
--- Nobody has been recorded: everybody who is named is missing.
+-- In a new roll, nobody has been recorded yet, so everybody who is named is missing.
 pub record IsNew (talker listener : Option (List PartyName)) (r : Roll) : Type 0 where
   pub talker_is : r.talker ≡ talker
   pub listener_is : r.listener ≡ listener
@@ -30,7 +30,7 @@ pub record IsNew (talker listener : Option (List PartyName)) (r : Roll) : Type 0
 abbrev pub AreFor : List Rule → List Roll → Type 0
 AreFor rules rolls = AllZip (λ rule r. IsNew rule.talker rule.listener r) rules rolls
 
--- Exactly those of a talker and a listener are missing that have not come.
+-- Whether the talker and the listener are missing after these events.
 abbrev pub AreMissing : Config → List Event → (talker listener : Option (List PartyName)) → Missing → Type 0
 AreMissing config events talker listener missing =
     IsMissing config events talker missing.talker × IsMissing config events listener missing.listener

@@ -64,7 +64,7 @@ flows_among hs = flat_map (flows_heard (seats_of hs)) hs
 abbrev pub AreRising : List Hearer → Type 0
 AreRising hs = AllPairs (λ h later. number_of h < number_of later) hs
 
--- The seats of `h` are exactly the seats of the talkers whose speech flows to this termination.
+-- `h.talkers` has exactly the seats of the talkers whose speech flows to this termination.
 pub record HearsTalkers (w : Gateway) (h : Hearer) : Type 0 where
   pub each : (t : Record) → record_at w.rooms t.number ≡ Some t
       → t.context ≡ h.seated.party.context

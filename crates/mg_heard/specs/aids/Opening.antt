@@ -29,7 +29,8 @@ AreBefore flow xs = All (λ x. key_of x.flow < key_of flow) xs
 abbrev pub beginning_among : List OpenInterval → OpenFlow → Option Moment
 beginning_among xs flow = option_map (λ x. x.first) (find (λ x. is_same flow x.flow) xs)
 
--- An interval that begins with the earlier interval of the same flow, if there is one.
+-- An interval that begins with the earlier interval of the same flow. If its flow has no earlier interval, it is
+-- unchanged.
 abbrev pub continued : List OpenInterval → OpenInterval → OpenInterval
 continued earlier x =
     option_map_or (λ first. record x { first = first }) (beginning_among earlier x.flow) x
@@ -41,7 +42,7 @@ flows_of xs = map (λ x. x.flow) xs
 abbrev pub without_flows : List OpenFlow → List OpenInterval → List OpenInterval
 without_flows flows xs = filter (λ x. not (has flows x.flow)) xs
 
--- ## Their places
+-- ## Places for intervals
 
 -- The maximum number of flows that can be open.
 abbrev pub flow_limit : ℕ
@@ -51,7 +52,7 @@ flow_limit = termination_limit * member_limit
 abbrev pub beginning_at : Moment → OpenFlow → OpenInterval
 beginning_at first x = record { flow = x; first = first }
 
--- ## Without dates
+-- ## Intervals without dates
 
 -- A stored interval while it has no end. `ended_at` gives it an end.
 abbrev pub still_open : OpenInterval → Interval

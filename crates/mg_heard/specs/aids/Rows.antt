@@ -12,7 +12,7 @@ intervals_of rows = flat_map (λ r. r.row) rows
 abbrev pub listeners_of : List ListenerRow → List Hearer
 listeners_of rows = map (λ r. r.listener) rows
 
--- Each row has the flows to its listener.
+-- The rows are in order of their listeners, and each row has the flows to its listener.
 pub record AreRows (rows : List ListenerRow) : Type 0 where
   pub rising : AreRising (listeners_of rows)
   pub flows : All (λ r. flows_of r.row ≡ flows_heard (seats_of (listeners_of rows)) r.listener) rows

@@ -25,7 +25,7 @@ Received setup socket true w trace next =
 Received setup socket false w trace next = ReceivesNothing socket trace × (next ≡ w)
 
 -- The complete lines in these bytes were executed, and the first 8 bytes of the partial line after them are kept.
--- Otherwise one of the lines was the last one, or printing failed for a line.
+-- Otherwise a line was `quit`, or printing failed for a line.
 abbrev pub BytesTaken : Form → Setup → List ℕ → List ℕ → List ℕ → Result Bool WriteFailed → World
     → List TraceEntry → World → Type 0
 BytesTaken form setup partial bytes kept (Ok false) w trace next =
@@ -44,7 +44,7 @@ BytesTaken form setup partial bytes kept (Err failed) w trace next =
     × (before_quit (lines_after ended partial (bytes ++ more)) ≡ lines ++ others))
     × LastPrints form (map line_command lines) × Session setup (map line_command lines) w trace next
 
--- The partial line, if there is one, is executed as the last line.
+-- A non-empty partial line is executed as the last line.
 abbrev pub Finished : Setup → List ℕ → World → List TraceEntry → World → Type 0
 Finished setup [] w trace next = (trace ≡ []) × (next ≡ w)
 Finished setup (b ∷ bs) w trace next = Performs setup (line_command (b ∷ bs)) w trace next
@@ -76,7 +76,7 @@ abbrev pub RanByClock : Form → Setup → ℕ → ClockSeen → ClockSeen → (
 RanByClock form setup allowed old new fails fault w trace next =
     RanBy setup (ClockCommands form allowed old new fails (Err fault)) w trace next
 
--- The commands of a step were executed, or printing failed for one of them.
+-- The commands of a step were executed, or printing failed for one of these commands.
 abbrev pub StepTaken : Form → Setup → Step → Result (Unit {0}) WriteFailed → World → List TraceEntry
     → World → Type 0
 StepTaken form setup step (Ok done) w trace next = Session setup (step_commands step) w trace next

@@ -47,7 +47,7 @@ abbrev pub IsLineOf : (followed : List TraceEntry) → List ℕ → Type 0
 IsLineOf (Happened event ∷ followed) lines = lines ≡ event_line event
 IsLineOf followed lines = ⊥
 
--- Some appends. If one failed, it was the last, with this error.
+-- The trace consists of appends. If an append failed, it was the last append, and it failed with this error.
 abbrev pub AreAppends : (followed : List TraceEntry) → Result (Unit {0}) AppendFault
     → List TraceEntry → Type 0
 AreAppends followed (Ok done) trace = All IsAppended trace
@@ -60,7 +60,7 @@ abbrev pub if_ok : Result (Unit {0}) AppendFault → List TraceEntry → List Tr
 if_ok (Ok done) trace = trace
 if_ok (Err fault) trace = []
 
--- Lines were appended, up to the first append that failed. If none failed, these entries follow.
+-- Lines were appended, up to the first append that failed. If no append failed, the entries `followed` come next.
 pub record AppendsBefore (followed : List TraceEntry) (result : Result (Unit {0}) AppendFault)
     (before after : PortsSeen) (old new : JournalView) : Type 0 where
   pub trace : List TraceEntry

@@ -14,15 +14,15 @@ use Rattle.mg_serve.specs.Setup.{Setup}
 use Rattle.mg_serve.specs.Trace.{TraceEntry, calls_of}
 use Rattle.mg_serve.specs.aids.Printing.{PrinterView, Prints}
 
--- A session's view of its journal: the durability with which messages are appended, if there is a journal, the number
--- of ticks that it lacks, the number of ticks since an append was tried, and the fence, if there is one.
+-- A session's view of its journal and its fence. If there is a journal, `durability` is that of messages. `lacking`
+-- counts the ticks that the journal lacks, and `untried` the ticks since an append was last tried.
 pub record JournalView : Type 0 where
   pub durability : Option Durability
   pub lacking : ℕ
   pub untried : ℕ
   pub fence : Option Fence
 
--- The journal of a setup at the start, when it doesn't lack any ticks.
+-- The view of a setup's journal at the start of a session. The journal doesn't lack any ticks.
 abbrev pub new_journal : Setup → JournalView
 new_journal setup =
     record { durability = setup.journal; lacking = 0; untried = 0; fence = setup.fence }
@@ -48,8 +48,7 @@ pub record LogsTrace (old new : Outside) (trace : List TraceEntry) : Type 0 wher
   pub tries : IsTried old.journal.durability old.journal.untried trace new.journal.untried
   pub fenced : IsFenced old.journal.fence trace new.journal.fence
 
--- Every world that the old core represents steps, with this trace, to a world that the new core
--- represents.
+-- With some trace, every world that the old core represents steps to a world that the new core represents.
 abbrev pub LeadsByTrace : CoreState → CoreState → Outside → Outside
     → (World → List TraceEntry → World → Type 0) → Type 0
 LeadsByTrace old new before after R =

@@ -10,15 +10,15 @@ pub record PrinterView : Type 0 where
   pub form : Form
   pub has_failed : Bool
 
--- The text was printed. If this print fails, a proper prefix of the text was printed. If printing had failed before,
--- nothing was printed.
+-- The text was printed. If this print failed, only a proper prefix of the text was printed. If printing had failed
+-- before, nothing was printed.
 abbrev pub Puts : Bool → Bool → List ℕ → Option (List ℕ) → Option (List ℕ) → Type 0
 Puts false false text old new = Appends old new text
 Puts false true text old new = (text ≢ []) × WritesFront text old new
 Puts true false text old new = ⊥
 Puts true true text old new = Keeps old new
 
--- The trace was printed.
+-- The output of the trace was printed.
 pub record Prints (old new : PrinterView) (before after : Option (List ℕ)) (trace : List TraceEntry)
     : Type 0 where
   pub form : new.form ≡ old.form

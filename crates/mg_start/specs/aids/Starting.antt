@@ -31,7 +31,7 @@ missed_by None millis = 0
 missed_by (Some timeline) None = 0
 missed_by (Some timeline) (Some millis) = missed_since timeline (record { millis = millis })
 
--- Whether a text is the beginning of a title, or begins like a title.
+-- Whether `text` is the beginning of a title, or begins like a title.
 abbrev pub may_be_title : List ℕ → Bool
 may_be_title text =
     let start = codes "# mg_bridge replay " in
@@ -46,13 +46,13 @@ title_before (Some timeline) config = []
 abbrev pub HasWritten : (old new : Option (List HostCall)) → (lines : List ℕ) → Type 0
 HasWritten old new lines = (calls : List HostCall) × Grows old new calls × Writes calls lines
 
--- These lines were appended to a journal, or this failed, perhaps after some of the lines.
+-- These lines were appended to a journal. Or this failed, perhaps after some of the lines, and no session ran.
 abbrev pub Logs : {A E : Type 0} → (old new : Option (List HostCall)) → (lines : List ℕ) → Result A E
     → Type 0
 Logs old new lines (Ok done) = HasWritten old new lines
 Logs old new lines (Err fault) = RunsNoSession old new
 
--- This many ticks have passed.
+-- This many ticks have passed in each world that a core represents.
 abbrev pub PassesTicks : ℕ → CoreState → CoreState → Type 0
 PassesTicks ticks old new =
     (w : World) → StandsFor old w → StandsFor new (world_after_ticks ticks w)

@@ -1,7 +1,7 @@
 use Rattle.std.proofs.Common.{◌≡◌, reverse, subst, sym}
 use Rattle.mg_heard.specs.aids.Timing.{IsClock}
 use Rattle.mg_heard.specs.declared.clock.Clock.{Clock}
-use Rattle.mg_heard.proofs.KeepingLemmas.{tells_weaker}
+use Rattle.mg_heard.proofs.KeptTickLemmas.{tells_weaker}
 use Rattle.mg_heard.proofs.hearing.finish.Goals as goal
 
 pub returns-in-Ok : goal.returns-in-Ok

@@ -4,7 +4,8 @@ use Rattle.mg_heard.specs.aids.Hearers.{seats_of}
 use Rattle.mg_heard.specs.aids.Rows.{intervals_of}
 use Rattle.mg_heard.specs.declared.listener_row.ListenerRow.{ListenerRow}
 use Rattle.mg_heard.proofs.FillLemmas.{nobody}
-use Rattle.mg_heard.proofs.RowLemmas.{Advances, advances_found, advances_new, advances_start, all_ended, all_rows, are_rows, at_first, earlier_flows, earlier_rising, rows_value, start_rising}
+use Rattle.mg_heard.proofs.RowLemmas.{start_rising}
+use Rattle.mg_heard.proofs.ListenerRowLemmas.{Advances, advances_found, advances_new, advances_start, all_ended, all_rows, are_rows, at_first, earlier_flows, earlier_rising, rows_value}
 use Rattle.mg_heard.proofs.rows.advance_rows.Goals as goal
 use Rattle.mg_heard.proofs.rows.advance_rows.Goals.{in-Some, in-None}
 

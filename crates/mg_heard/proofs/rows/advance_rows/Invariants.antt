@@ -1,4 +1,4 @@
-use Rattle.mg_heard.proofs.RowLemmas.{Advances}
+use Rattle.mg_heard.proofs.ListenerRowLemmas.{Advances}
 use Rattle.mg_heard.proofs.rows.advance_rows.Given as goal
 
 abbrev pub invariant-loop-place : goal.invariant-loop-place

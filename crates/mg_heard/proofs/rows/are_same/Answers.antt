@@ -4,7 +4,7 @@ use Rattle.mg_heard.specs.aids.Hearers.{seats_of}
 use Rattle.mg_heard.specs.aids.Rows.{listeners_of}
 use Rattle.mg_heard.specs.declared.listener_row.ListenerRow.{ListenerRow}
 use Rattle.mg_heard.proofs.FillLemmas.{nobody}
-use Rattle.mg_heard.proofs.RowLemmas.{same_more}
+use Rattle.mg_heard.proofs.ListenerRowLemmas.{same_more}
 use Rattle.mg_heard.proofs.SameLemmas.{same_seated}
 use Rattle.mg_heard.proofs.rows.are_same.Goals as goal
 

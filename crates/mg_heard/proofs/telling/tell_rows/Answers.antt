@@ -5,7 +5,7 @@ use Rattle.mg_heard.specs.aids.Rows.{intervals_of}
 use Rattle.mg_heard.specs.declared.entry.Entry.{Entry}
 use Rattle.mg_heard.specs.declared.listener_row.ListenerRow.{ListenerRow}
 use Rattle.mg_heard.specs.declared.open_interval.OpenInterval.{OpenInterval}
-use Rattle.mg_heard.proofs.RowLemmas.{told_row}
+use Rattle.mg_heard.proofs.ListenerRowLemmas.{told_row}
 use Rattle.mg_heard.proofs.telling.tell_rows.Goals as goal
 
 pub loop-row-preserved : goal.loop-row-preserved

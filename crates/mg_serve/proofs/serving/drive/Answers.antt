@@ -3,7 +3,7 @@ use Rattle.std.specs.Option.{option_map}
 use Rattle.std.proofs.lemmas.Result.{err_from_is_err_and}
 use Rattle.mg_ports.specs.Journaled.{ports_seen}
 use Rattle.mg_serve.specs.aids.Outside.{outside}
-use Rattle.mg_serve.proofs.Running.{no_memory, not_opened, served_ok, served_err}
+use Rattle.mg_serve.proofs.WholeRuns.{no_memory, not_opened, served_ok, served_err}
 use Rattle.mg_serve.proofs.serving.drive.Goals as goal
 
 pub returns-in_default-clause-session : goal.returns-in_default-clause-session

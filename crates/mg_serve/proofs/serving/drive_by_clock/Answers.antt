@@ -3,7 +3,7 @@ use Rattle.std.specs.Option.{option_map}
 use Rattle.mg_clock.specs.Ticks.{clock_seen}
 use Rattle.mg_ports.specs.Journaled.{ports_seen}
 use Rattle.mg_serve.specs.aids.Outside.{outside}
-use Rattle.mg_serve.proofs.Running.{no_memory_by_clock, not_opened_by_clock, served_by_clock}
+use Rattle.mg_serve.proofs.WholeRuns.{no_memory_by_clock, not_opened_by_clock, served_by_clock}
 use Rattle.mg_serve.proofs.serving.drive_by_clock.Goals as goal
 
 pub returns-in_default-clause-session : goal.returns-in_default-clause-session

@@ -1,6 +1,6 @@
 use Rattle.std.specs.Option.{option_map}
 use Rattle.mg_ports.specs.Journaled.{ports_seen}
-use Rattle.mg_serve.proofs.Running.{no_memory}
+use Rattle.mg_serve.proofs.WholeRuns.{no_memory}
 use Rattle.mg_serve.proofs.serving.serve.Goals as goal
 
 pub returns-in_default-clause-session : goal.returns-in_default-clause-session

@@ -5,7 +5,8 @@ use Rattle.mg_heard.specs.aids.Keeping.{TellsTimed, entry_until}
 use Rattle.mg_heard.specs.aids.Rows.{intervals_of}
 use Rattle.mg_heard.specs.aids.Timing.{Timed}
 use Rattle.mg_heard.specs.declared.open_interval.OpenInterval.{OpenInterval}
-use Rattle.mg_heard.proofs.KeepingLemmas.{now_is, tells_all_on, timed_until}
+use Rattle.mg_heard.proofs.KeepingLemmas.{now_is}
+use Rattle.mg_heard.proofs.KeptTickLemmas.{tells_all_on, timed_until}
 use Rattle.mg_heard.proofs.TimingLemmas.{timed_on}
 use Rattle.mg_heard.proofs.heard.Heard.finish.Goals as goal
 

@@ -1,5 +1,5 @@
 use Rattle.std.proofs.Common.{true, refl}
-use Rattle.mg_heard.proofs.KeepingLemmas.{heard_start}
+use Rattle.mg_heard.proofs.KeptTickLemmas.{heard_start}
 use Rattle.mg_heard.proofs.heard.Heard.new.Goals as goal
 
 pub returns-clause-start : goal.returns-clause-start

@@ -5,7 +5,7 @@ use Rattle.mg_heard.specs.aids.Opening.{ended_at}
 use Rattle.mg_heard.specs.aids.Rows.{intervals_of}
 use Rattle.mg_heard.specs.aids.Timing.{AreBegun}
 use Rattle.mg_heard.specs.declared.listener_row.ListenerRow.{ListenerRow}
-use Rattle.mg_heard.proofs.KeepingLemmas.{timed_ended_on}
+use Rattle.mg_heard.proofs.KeptTickLemmas.{timed_ended_on}
 use Rattle.mg_heard.proofs.heard.Heard.tell_changes.Goals as goal
 
 pub returns-clause-value : goal.returns-clause-value

@@ -1,6 +1,6 @@
 use Rattle.mg_heard.specs.OpenFlows.{open_flows}
 use Rattle.mg_heard.proofs.IntervalLemmas.{equal_moments_tell_nothing}
-use Rattle.mg_heard.proofs.KeepingLemmas.{timed_same}
+use Rattle.mg_heard.proofs.KeptTickLemmas.{timed_same}
 use Rattle.mg_heard.proofs.heard.Heard.update.Goals as goal
 
 pub returns-then-self-clause-value : goal.returns-then-self-clause-value

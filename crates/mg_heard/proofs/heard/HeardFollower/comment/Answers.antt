@@ -1,5 +1,5 @@
 use Rattle.std.proofs.Common.{reverse, sym, ◌∙◌}
-use Rattle.mg_heard.proofs.KeepingLemmas.{heard_comment, heard_gap_on}
+use Rattle.mg_heard.proofs.KeptTickLemmas.{heard_comment, heard_gap_on}
 use Rattle.mg_heard.proofs.heard.HeardFollower.comment.Goals as goal
 
 pub returns-in-Ok-None-clause-value : goal.returns-in-Ok-None-clause-value

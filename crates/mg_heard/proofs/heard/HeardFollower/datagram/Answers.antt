@@ -1,6 +1,7 @@
 use Rattle.std.proofs.Common.{refl, true}
 use Rattle.std.proofs.lemmas.Bool.{true≢false}
-use Rattle.mg_heard.proofs.KeepingLemmas.{heard_datagram, not_control}
+use Rattle.mg_heard.proofs.KeepingLemmas.{not_control}
+use Rattle.mg_heard.proofs.KeptTickLemmas.{heard_datagram}
 use Rattle.mg_heard.proofs.heard.HeardFollower.datagram.Goals as goal
 
 pub returns-in-Control-clause-value : goal.returns-in-Control-clause-value

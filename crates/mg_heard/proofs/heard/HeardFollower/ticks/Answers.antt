@@ -3,7 +3,8 @@ use Rattle.mg_heard.specs.Times.{tick_count}
 use Rattle.mg_heard.specs.aids.Timing.{IsClock, Timed}
 use Rattle.mg_heard.specs.declared.clock.Clock.{Clock}
 use Rattle.mg_heard.proofs.IntervalLemmas.{equal_moments_tell_nothing}
-use Rattle.mg_heard.proofs.KeepingLemmas.{heard_no_tick, heard_ticks, now_is}
+use Rattle.mg_heard.proofs.KeepingLemmas.{now_is}
+use Rattle.mg_heard.proofs.KeptTickLemmas.{heard_no_tick, heard_ticks}
 use Rattle.mg_heard.proofs.heard.HeardFollower.ticks.Goals as goal
 
 pub returns-then-count-eq0 : goal.returns-then-count-eq0

@@ -1,7 +1,8 @@
 use Rattle.std.proofs.Common.{Ok, Err, true, false, take, length-take, arith}
 use Rattle.mg_ports.specs.Journaled.{ports_seen}
 use Rattle.mg_serve.specs.aids.Outside.{outside}
-use Rattle.mg_serve.proofs.Running.{read_start, read_more, takes_end, takes_end_fault, takes_quit, takes_broken, takes_unread, takes_enough}
+use Rattle.mg_serve.proofs.Running.{read_start, read_more}
+use Rattle.mg_serve.proofs.RunEnds.{takes_end, takes_end_fault, takes_quit, takes_broken, takes_unread, takes_enough}
 use Rattle.mg_serve.proofs.line_driver.LineDriver.take_all.Goals as goal
 
 pub loop-init : goal.loop-init

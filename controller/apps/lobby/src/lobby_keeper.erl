@@ -29,11 +29,15 @@ name(call) -> lobby_call_keeper.
 running({error, {already_started, Pid}}) -> {ok, Pid};
 running(Started) -> Started.
 
-%% @doc Registers a process that was just started, so that the keeper monitors it.
+%% @doc Registers a process that was just started, so that the keeper monitors it. If the process failed at its start,
+%% the keeper counts the failure and tries again, and this call exits.
 -spec started(kind(), Name :: term(), supervisor:startchild_ret()) -> {ok, pid()}.
 started(Kind, Name, {ok, Pid}) ->
     ok = gen_server:cast(name(Kind), {started, Name, Pid}),
-    {ok, Pid}.
+    {ok, Pid};
+started(Kind, Name, {error, Reason}) ->
+    ok = gen_server:cast(name(Kind), {failed, Name, Reason}),
+    exit({failed, Name, Reason}).
 
 -spec init(kind()) -> {ok, #state{}, {continue, restore}}.
 init(Kind) ->
@@ -62,9 +66,11 @@ start(call, Key) ->
 handle_call(_, _, State) ->
     {reply, {error, unknown_call}, State}.
 
--spec handle_cast({started, term(), pid()}, #state{}) -> {noreply, #state{}}.
+-spec handle_cast({started, term(), pid()} | {failed, term(), term()}, #state{}) -> {noreply, #state{}}.
 handle_cast({started, Name, Pid}, State) ->
-    {noreply, watch(Name, Pid, State)}.
+    {noreply, watch(Name, Pid, State)};
+handle_cast({failed, Name, Reason}, State = #state{kind = Kind}) ->
+    {noreply, case is_kept(Kind, Name) of true -> ended(Name, Reason, State); false -> State end}.
 
 watch(_, Pid, State = #state{names = Names}) when is_map_key(Pid, Names) ->
     State;

@@ -14,7 +14,7 @@ all() ->
      session_timers, who_is_silent_is_asked, what_the_gateway_drops_is_logged, requests_that_are_refused, limits, addresses_that_may_call, passwords, a_lost_gateway_is_replaced, who_moves_after_a_loss_is_awaited, who_invites_during_a_loss_is_not_awaited,
      sixty_callers_hear_each_other_again, our_invite_is_repeated_and_acknowledged, both_invite_at_once,
      who_vanished_is_removed, who_refuses_our_invite_is_hung_up, hung_up_and_moved, hung_up_during_a_change, who_is_hung_up_stays_away, addresses_of_ipv6, routes, a_call_that_starts_again_knows_its_place, a_call_that_fails_while_it_joins,
-     a_call_that_fails_again_and_again_ends, a_call_outlives_a_slow_supervisor, an_answer_that_comes_after_a_failure, a_call_that_fails_during_a_change, processes_fail, the_node_fails, garbage,
+     a_call_that_fails_again_and_again_ends, a_call_that_fails_at_its_start_is_started_again, a_call_outlives_a_slow_supervisor, an_answer_that_comes_after_a_failure, a_call_that_fails_during_a_change, processes_fail, the_node_fails, garbage,
      over_tcp, connections_are_limited, answers_are_quick, sipp, baresips].
 
 init_per_testcase(Case, Config) ->
@@ -670,6 +670,20 @@ a_call_that_fails_again_and_again_ends(Config) ->
     ?assertEqual("BYE", phone:status(next(["INVITE"], Phone))),
     lobby_case:until(fun() -> lobby_store:all(lobby_calls) =:= [] andalso members(<<"100">>) =:= [] end),
     lobby_case:until(fun() -> length(gateway:contexts(lists:seq(1, 60), gateway(Config))) =:= 1 end).
+
+%% The call's process is killed after it was registered, while its supervisor still waits for it.
+a_call_that_fails_at_its_start_is_started_again(Config) ->
+    {Phone, _} = call(Config),
+    [{Key, _}] = lobby_store:all(lobby_calls),
+    Before = lobby_registry:whereis_name({call, Key}),
+    ok = supervisor:terminate_child(lobby_call_sup, Before),
+    ?assertExit({failed, Key, fails}, lobby_keeper:started(call, Key, {error, fails})),
+    lobby_case:until(fun() -> is_pid(lobby_registry:whereis_name({call, Key})) end),
+    ?assertEqual("INVITE", phone:status(phone:recv(Phone, 5000))),
+    ?assertEqual(1, length(members(<<"100">>))),
+    %% A call that isn't stored isn't started.
+    ?assertExit({failed, unknown, fails}, lobby_keeper:started(call, unknown, {error, fails})),
+    ?assertEqual([Key], [Known || {Known, _} <- lobby_registry:names(call)]).
 
 %% Until the rooms' supervisor has restarted, a call fails at each start. These failures don't end the call.
 a_call_outlives_a_slow_supervisor(Config) ->

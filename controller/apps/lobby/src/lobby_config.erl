@@ -30,7 +30,7 @@
 -define(AUDIT_LOG, #{file => {file, required}, bytes => {{65536, 1 bsl 30}, 16777216}, files => {{1, 1000}, 9}}).
 
 -define(PAIR, #{self => {node, required}, peer => {node, required}, cookie => {secret, required},
-                lease => {lease, address}, ready => {file, none}, gap => {{100, 250}, 250}}).
+                lease => {lease, address}, ready => {file, none}, gap => {{100, 2500}, 250}}).
 
 %% @doc Returns the configuration with defaults, or a text that describes an error in it.
 -spec check([{atom(), term()}]) -> {ok, config()} | {error, string()}.
@@ -45,6 +45,8 @@ checked(Env) ->
     #{gateways := Gateways, pair := Pair, store := Store} = Config,
     Names = [Name || #{name := Name} <- Gateways],
     _ = [wrong("a pair needs {store,disc}", []) || Pair =/= none, Store =:= memory],
+    %% Otherwise, keepalived might give the address to the other host before this time has passed.
+    _ = [wrong("gap must be at most 250, unless lease is a file", []) || #{lease := address, gap := Gap} <- [Pair], Gap > 250],
     _ = [wrong("self and peer are both ~0p", [Node]) || #{self := Node, peer := Node} <- [Pair]],
     _ = [wrong("two gateways have the name ~0p", [Name]) || Name <- Names -- lists:usort(Names)],
     shares(Config).

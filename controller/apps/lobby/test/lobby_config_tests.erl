@@ -62,7 +62,9 @@ tls_test_() ->
 pair_test_() ->
     Pair = #{self => 'lobby@10.0.0.21', peer => 'lobby@10.0.0.22', cookie => <<"0123456789abcdef">>},
     Gateways = {gateways, [#{name => <<"a">>, address => ?ADDRESS}]},
-    [?_assertMatch({ok, #{pair := #{lease := address, ready := none, gap := 250}}}, lobby_config:check([Gateways, {store, disc}, {pair, Pair}]))
+    [?_assertMatch({ok, #{pair := #{lease := address, ready := none, gap := 250}}}, lobby_config:check([Gateways, {store, disc}, {pair, Pair}])),
+     ?_assertMatch({ok, #{pair := #{gap := 2500}}},
+                   lobby_config:check([Gateways, {store, disc}, {pair, Pair#{gap => 2500, lease => {file, "/tmp/lease"}}}]))
      | [?_assertEqual({error, Text}, lobby_config:check([Gateways, {store, Store}, {pair, Wrong}]))
         || {Text, Store, Wrong} <-
                [{"a pair needs {store,disc}", memory, Pair},
@@ -71,7 +73,8 @@ pair_test_() ->
                 {"self must be a node's name such as 'lobby@10.0.0.20', not lobby", disc, Pair#{self := lobby}},
                 {"cookie must be a binary of 16 to 255 bytes, not <<\"a\">>", disc, Pair#{cookie := <<"a">>}},
                 {"lease must be address or {file,\"/path\"}, not true", disc, Pair#{lease => true}},
-                {"gap must be a whole number from 100 to 250, not 251", disc, Pair#{gap => 251}},
+                {"gap must be at most 250, unless lease is a file", disc, Pair#{gap => 251}},
+                {"gap must be a whole number from 100 to 2500, not 2501", disc, Pair#{gap => 2501, lease => {file, "/tmp/lease"}}},
                 {"pair must be a map or none, not []", disc, []}]]].
 
 refused_test_() ->

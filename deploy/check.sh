@@ -89,8 +89,8 @@ metrics() {
     mv "$work/metrics.new" "$work/metrics"
 }
 
-# drains STATUS WANTED [SECONDS]: checks the exit status of `drain`, and everything that it prints, without the name of
-# the file.
+# drains STATUS WANTED [SECONDS]: checks the exit status of `drain`, and everything that it prints, except for the path
+# of the folder.
 drains() {
     status=0
     "$here/drain" "$work/metrics" "${3:-0}" > "$work/said" 2>&1 || status=$?

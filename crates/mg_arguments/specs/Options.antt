@@ -358,7 +358,7 @@ abbrev pub rules_in : List Row → Result (List AskedRule) RuleFault
 rules_in found =
     rules_of (is_given (codes "names") found) (unwrap_or (all_of (codes "never") found) [])
 
--- The run that checks whether a script keeps the rules on the command line.
+-- The run that checks whether a script obeys the rules on the command line.
 abbrev pub watch_in : List Row → Result Invocation Kinds
 watch_in found = do
   rules ← valid (rules_in found)

@@ -95,10 +95,10 @@ same_mode_is a b h = absurd (cc h)
 
 -- Two listeners that are equal except for their ports.
 pub record AreSame (x y : Listener) : Type 0 where
-  number : x.number ≡ y.number
-  context : x.context ≡ y.context
-  mode : x.mode ≡ y.mode
-  talkers : x.talkers ≡ y.talkers
+  pub number : x.number ≡ y.number
+  pub context : x.context ≡ y.context
+  pub mode : x.mode ≡ y.mode
+  pub talkers : x.talkers ≡ y.talkers
 
 same_but_port : (x y : Listener) → AreSame x y → but_port x ≡ but_port y
 same_but_port x y h = λ i. record {

@@ -18,7 +18,7 @@ date_at (Err error) = None
 abbrev pub date_of_text : List ℕ → Option Date
 date_of_text text = date_at (parse_timestamp text)
 
--- The number of ticks that were missed since a date: a tick is due every 20 ms, and `ticks` of them ran. If these ticks
+-- The number of ticks that have been missed since a date: a tick is due every 20 ms, and `ticks` of them ran. If these ticks
 -- took longer than the clock says, the clock was set back, and one second's worth of ticks counts as missed.
 abbrev pub missed_ticks : (date ticks now : ℕ) → ℕ
 missed_ticks date ticks now =

@@ -232,7 +232,7 @@ intervals_are_true_and_maximal moments y =
 
 -- ## The ticks of intervals
 
--- If a flow is open in a moment, an interval of this flow contains the moment's tick.
+-- If a flow is among the open flows of a moment, an interval of this flow contains the moment's tick.
 pub told_at : (moments : List (List OpenFlow)) (k : ℕ) (x : OpenFlow) → In x (get_or moments k []) →
     (y : Interval) × In y (intervals (reverse moments)) × (y.flow ≡ x) × LiesIn k y
 told_at moments k x h =

@@ -66,7 +66,8 @@ pub(crate) fn time_word(time: Option<Date>, otherwise: &[u8]) -> TimeText {
     }
 }
 
-/// Returns the end of the command that makes a request's page: the script's name as one word, or the input.
+/// Returns the end of the command that makes a request's page: the script's name as one word, or the redirection of the
+/// input.
 pub(crate) fn last_words(alloc: Global, request: &HeardRequest) -> Result<Vec<u8>, AllocError>
     ensures value { IfOk result (λ words. words.items ≡ last_words request.now.file) }
 {

@@ -48,8 +48,8 @@ pub record IsMoment (setup : Setup) (durability : Durability) (w : World) (told 
   pub tells : TellsEvents start told
   pub after : JournalAfter (calls_of front) start journal
 
--- Each prefix of a session's trace ends at a moment. The premises are fields of `Served`, the contract of a server's
--- run. The rest of the trace leads from the journal at this moment to the journal at the end of the run.
+-- Each prefix of a session's trace ends at a moment. The first two premises say that there is a journal, and what it
+-- contained. The others are fields of `Served`, the contract of a server's run. The rest of the trace leads from the journal at this moment to the journal at the end of the run.
 abbrev pub EachPartIsAMoment : Type 0
 EachPartIsAMoment =
     (setup : Setup) (durability : Durability) (commands : List Command) (w last : World)

@@ -1,5 +1,5 @@
-%% A fake rtpengine for tests, which answers its ng protocol without relaying. A browser's media are those of a
-%% `caller', which talks directly to rtpengine's target.
+%% A fake rtpengine for tests. It answers requests in the ng protocol, but relays no media. A browser's media are those
+%% of a `caller', which talks directly to rtpengine's target.
 -module(rtpengine).
 
 -export([start/0, address/1, offer/1, offers/1, calls/1, be/2, restart/1]).

@@ -30,7 +30,7 @@ pub record TellsPast (past : List (List OpenFlow)) (stored : List OpenInterval)
   pub told : Told xs
 
 -- After these notes, a follower has reported the intervals that had ended before the last tick, and
--- stores those that had not. If nothing may have changed since then, the same flows are open now.
+-- stores those that had not. If nothing can have changed since then, the same flows are open now.
 pub record KeepsOpen (config : Config) (notes : List Note) (tick : ℕ) (is_changed : Bool)
     (stored : List OpenInterval) (Told : List Entry → Type 0) : Type 0 where
   pub past : List (List OpenFlow)

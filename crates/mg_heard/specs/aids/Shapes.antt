@@ -146,7 +146,7 @@ abbrev pub bar_end : Option Moment → List ℕ
 bar_end None = codes "var(--t1)"
 bar_end (Some end) = decimal end.tick
 
--- The ticks from which the page draws a row's bar.
+-- The ticks between which the page draws a row's bar.
 abbrev pub bar_of : Moment → Option Moment → List ℕ
 bar_of first end =
     codes "style=\"--a:" ++ (decimal first.tick ++ (codes ";--b:" ++ (bar_end end ++ codes "\">")))

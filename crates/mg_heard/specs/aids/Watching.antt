@@ -15,7 +15,7 @@ abbrev pub forbids : Rule → OpenFlow → Bool
 forbids rule x =
     is_asked rule.talker x.talker x.talker_at && is_asked rule.listener x.listener x.listener_at
 
--- The first forbidden flow that is open in a moment.
+-- The first forbidden flow among the open flows of a moment.
 abbrev pub forbidden_in : List Rule → List OpenFlow → Option OpenFlow
 forbidden_in rules flows = find (is_forbidden rules) flows
 
@@ -24,7 +24,7 @@ abbrev pub forbidden_at : ℕ → List Rule → List OpenFlow → Option (ℕ ×
 forbidden_at tick rules flows = option_map (λ x. (tick, x)) (forbidden_in rules flows)
 
 -- After these notes, a watch has the first violation in the moments that are over. If there is none
--- and nothing may have changed since then, no rule is broken now.
+-- and nothing can have changed since then, no rule is broken now.
 pub record KeepsRules (rules : List Rule) (config : Config) (notes : List Note) (tick : ℕ)
     (is_changed : Bool) (violation : Option Violation) : Type 0 where
   pub past : List (List OpenFlow)

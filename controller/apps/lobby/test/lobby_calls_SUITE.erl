@@ -676,6 +676,11 @@ a_call_that_fails_at_its_start_is_started_again(Config) ->
     {Phone, _} = call(Config),
     [{Key, _}] = lobby_store:all(lobby_calls),
     Before = lobby_registry:whereis_name({call, Key}),
+    %% An ACK that arrives later would start the call.
+    lobby_case:until(fun() ->
+        #{members := Members} = people:describe(<<"100">>),
+        [true] =:= [Is || #{acknowledged := Is} <- maps:values(Members)]
+    end),
     ok = supervisor:terminate_child(lobby_call_sup, Before),
     ?assertExit({failed, Key, fails}, lobby_keeper:started(call, Key, {error, fails})),
     lobby_case:until(fun() -> is_pid(lobby_registry:whereis_name({call, Key})) end),

@@ -1,5 +1,6 @@
 -- The lines about missing terminations.
-use Rattle.std.proofs.Common.{◌≡◌, ◌∙◌, ◌⊎◌, ◌+◌, ◌<◌, ◌≤◌, ◌++◌, ◌∷◌, [], ℕ, List, Option, Some, None, ap, drop, get_or, length, refl, subst, sym, inl, inr}
+use Rattle.std.proofs.Common.{◌≡◌, ◌∙◌, ◌+◌, ◌<◌, ◌≤◌, ◌++◌, ◌∷◌, [], ℕ, List, Option, Some, None, ap, arith, drop, get_or, length, min, refl, subst, sym, inl, inr}
+use Rattle.std.proofs.lemmas.Bool.{cases_lt}
 use Rattle.std.proofs.lemmas.List.{append-nil, append_assoc, at_drop_all, at_drop_more}
 use Rattle.std.specs.Io.KnownBytes.{Appends}
 use Rattle.mg_options.specs.Status.{UnlessFault}
@@ -35,20 +36,27 @@ none_missing : (name : List ℕ) (rules : List AskedRule) → all_absences name 
 none_missing name [] = refl
 none_missing name (rule ∷ rules) = refl
 
+-- No line is left when the rules or the answers are.
 pub absences_done : (name : List ℕ) (rules : List AskedRule) (missing : List Missing) (i : ℕ) →
-    (length rules ≤ i) ⊎ (length missing ≤ i) → all_absences name (drop i rules) (drop i missing) ≡ []
-absences_done name rules missing i (inl h) =
-    at_drop_all (λ (l : List AskedRule). all_absences name l (drop i missing)) rules i h
-absences_done name rules missing i (inr h) =
-    at_drop_all (λ (l : List Missing). all_absences name (drop i rules) l) missing i h ∙ none_missing name (drop i rules)
+    min (length rules) (length missing) ≤ i → all_absences name (drop i rules) (drop i missing) ≡ []
+absences_done name rules missing i reached =
+    elim (cases_lt i (length rules)) [
+      | inl within ↦
+          (let over : length missing ≤ i = omega (arith, reached, within) in
+          at_drop_all (λ (l : List Missing). all_absences name (drop i rules) l) missing i over
+          ∙ none_missing name (drop i rules))
+      | inr over ↦ at_drop_all (λ (l : List AskedRule). all_absences name l (drop i missing)) rules i over
+    ]
 
 -- Writing the lines for one more rule moves them from the remaining lines to the text.
 pub absences_more : (name : List ℕ) (rules : List AskedRule) (missing : List Missing) (i : ℕ) (r : AskedRule)
-    (m : Missing) (before whole : List ℕ) → i < length rules → i < length missing → get_or rules i r ≡ r →
-    get_or missing i m ≡ m → before ++ all_absences name (drop i rules) (drop i missing) ≡ whole →
-    ((before ++ absence_line name r.talker m.talker) ++ absence_line name r.listener m.listener)
+    (d : Missing) (before whole : List ℕ) → i < length rules → i < length missing → get_or rules i r ≡ r →
+    before ++ all_absences name (drop i rules) (drop i missing) ≡ whole →
+    ((before ++ absence_line name r.talker (get_or missing i d).talker)
+    ++ absence_line name r.listener (get_or missing i d).listener)
     ++ all_absences name (drop (i + 1) rules) (drop (i + 1) missing) ≡ whole
-absences_more name rules missing i r m before whole there within rule_is missing_is is =
+absences_more name rules missing i r d before whole there within rule_is is =
+    let m = get_or missing i d in
     let rest = all_absences name (drop (i + 1) rules) (drop (i + 1) missing) in
     let talker = absence_line name r.talker m.talker in
     let listener = absence_line name r.listener m.listener in
@@ -56,10 +64,9 @@ absences_more name rules missing i r m before whole there within rule_is missing
     ∙ append_assoc before (talker ++ listener) rest
     ∙ ap (λ (l : List ℕ). before ++ l) (
     ap (λ (x : AskedRule). absences name x.talker x.listener m ++ rest) (sym rule_is)
-    ∙ ap (λ (x : Missing). absences name (get_or rules i r).talker (get_or rules i r).listener x ++ rest) (sym missing_is)
     ∙ sym (
     at_drop_more (λ (l : List AskedRule). all_absences name l (drop i missing)) rules i r there
-    ∙ at_drop_more (λ (l : List Missing). all_absences name (get_or rules i r ∷ drop (i + 1) rules) l) missing i m within
+    ∙ at_drop_more (λ (l : List Missing). all_absences name (get_or rules i r ∷ drop (i + 1) rules) l) missing i d within
     )
     )
     ∙ is

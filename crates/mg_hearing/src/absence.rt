@@ -43,7 +43,9 @@ fn push_all(
 ) -> Result<(), AllocError>
     ensures value { OnOk result (text.new.items ≡ text.old.items ++ all_absences name.now rules.now missing.now) }
 {
-    for (rule, absent) in rules.iter().zip(missing) {
+    for place in 0..rules.len().min(missing.len()) {
+        let rule = &rules[place];
+        let absent = &missing[place];
         push_line(alloc, name, &rule.talker, absent.talker, text)?;
         push_line(alloc, name, &rule.listener, absent.listener, text)?;
     }

@@ -26,9 +26,9 @@ HEARD = "RTP/2 (127.0.0.1:40002) heard RTP/1 (127.0.0.1:40000) in context 1 from
 
 
 class Audible(Commands):
-    def audible(self, output, *words, talker="RTP/1", text=SPEECH, errors=""):
+    def audible(self, output, *words, talker="RTP/1", text=SPEECH, errors="", status=0):
         """Checks what is printed about a talker."""
-        self.ends(0, output, errors, "heard", "--audible", "--talker", talker, *words, text=text)
+        self.ends(status, output, errors, "heard", "--audible", "--talker", talker, *words, text=text)
 
     def test_speech_and_silence(self):
         self.audible(HEARD)
@@ -79,3 +79,9 @@ class Audible(Commands):
     def test_a_journal(self):
         errors = "standard input: no RTP datagrams, so nothing is audible; a journal has none, a recording does\n"
         self.audible("", text=TITLE + PAIR + "tick\n" * 4, errors=errors)
+        self.audible("", text=TITLE + PAIR + "# counted ticks\nticks 4320000\n", errors=errors)
+
+    def test_more_ticks_than_those_of_a_day(self):
+        for count in (4320001, 18446744073709551615):
+            text = TITLE + PAIR + f"# counted ticks\nticks {count}\n"
+            self.audible("", text=text, errors="standard input: too many ticks\n", status=6)

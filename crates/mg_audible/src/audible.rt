@@ -11,8 +11,12 @@ use crate::pair::Pair;
 use crate::telling::tell_audible;
 use crate::theorems::differences_are_speech;
 use mg_core::{Config, Core, Event, Follower, RunFault, Stopped};
-use mg_heard::{Clock, HeardFault, OpenIntervals, Sink, tell_gap};
+use mg_heard::{Clock, ClockFault, HeardFault, OpenIntervals, Sink, tell_gap};
 use std::alloc::Global;
+
+/// The maximum number of ticks without another event: those of a day. Both gateways run each tick, so a line of a
+/// journal that counts more ticks would take too long.
+const MAX_TICKS: u64 = 4_320_000;
 
 /// Follows when a talker is audible, and reports each interval to a sink when the interval ends. The gateway that runs
 /// the script mixes no packets, so the follower has two gateways of its own.
@@ -139,6 +143,9 @@ impl<S: Sink> Follower for Audible<S> {
     }
 
     fn ticks(&mut self, _core: &Core, count: u64) -> Result<(), Stopped> {
+        if count > MAX_TICKS {
+            return Err(self.stop(HeardFault::Clock(ClockFault::TooManyTicks)));
+        }
         for _ in 0..count {
             self.pass_tick()?;
         }

@@ -9,7 +9,7 @@ pub enum ClockFault {
     /// The line with this number, counted from 1, is the title of another gateway.
     #[error("line {0}: the title of another gateway")]
     OtherGateway(u64),
-    /// The script has 2^64 ticks or more.
+    /// The script has 2^64 ticks or more. A reader that runs each tick also stops at a line of more ticks than it runs.
     #[error("too many ticks")]
     TooManyTicks,
 }

@@ -12,7 +12,7 @@ from pathlib import Path
 ROOT = Path(__file__).resolve().parent.parent.parent
 # The folder with the programs. None: each crate's folder has the program that `rt ci` built.
 FOLDER = None
-# No test waits longer than this for something that should happen at once, in seconds.
+# The maximum number of seconds for which a test waits for something that should happen at once.
 LIMIT = 30
 
 HEARTBEAT = "MEGACO/1 [127.0.0.1]:2945 Transaction=1{Context=-{AuditValue=ROOT{Audit{}}}}"
@@ -84,7 +84,7 @@ class Gateway:
         pipes = {it: subprocess.PIPE for it in ("stdin", "stdout", "stderr")}
         install = kernel.install if kernel else None
         self.process = subprocess.Popen([program("mg_bridge"), *words], text=True, preexec_fn=install, **pipes)
-        # So no read waits for ever.
+        # So no read waits forever.
         self.end = threading.Timer(2 * LIMIT, self.process.kill)
         self.end.start()
         # The lines that were printed before the counts.

@@ -1,4 +1,4 @@
-"""The stored scripts, and the output that is stored beside each."""
+"""The stored scripts, and the output that is stored next to each."""
 import programs
 from programs import ROOT, Commands
 from seals import sealed

@@ -124,7 +124,7 @@ class Heard(Commands):
             said = "".join(f"standard input: {name} was never there\n" for name in names)
             self.ends(2, "", said, "heard", *words, text=text)
             self.ends(2, "not known\n", said, "heard", "--at=2026-11-27T14:03:20Z", *words, text=text)
-        # Whoever was there, if only between two ticks, and whoever was always isolated could not be heard.
+        # A caller who was there only between two ticks, or was always isolated, could not be heard.
         gone = self.TITLE + date(20) + PAIR + say(2, "Context=1{Subtract=RTP/2}") + "tick\n"
         apart = self.TITLE + date(20) + PAIR + topology(2, "Isolate") + "tick\n"
         for text in (gone, apart):

@@ -237,7 +237,7 @@ class Journals(Commands):
                 self.ends(6, "", f"{self.path}: line {line}: bad script line\n", "heard", self.path)
 
     def test_ticks_are_one_line(self):
-        """However many they are: here, a minute of a gateway's and a month of missed ones."""
+        """A month of missed ticks takes one line. A gateway appends the ticks that it runs ten at a time."""
         start = datetime.now(timezone.utc).replace(microsecond=0) - timedelta(days=30)
         title = self.TITLE.replace("28807", str(FIRST)).replace("28808", str(FIRST + 2))
         Path(self.path).write_text(f"{title}# time {start:%Y-%m-%dT%H:%M:%S}Z\n")

@@ -1,4 +1,4 @@
-"""Callers of a gateway that ends and starts again, for the trials of the journal."""
+"""Callers of a gateway that exits and starts again, for the trials of the journal."""
 import select
 import sys
 import time

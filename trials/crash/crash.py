@@ -1,5 +1,5 @@
-"""Kills `mg_bridge live` with a journal at random moments, restarts it as the unit does, and checks that callers only
-hear a gap.
+"""Kills `mg_bridge live` with a journal at random moments, restarts it as the unit does, and checks that callers hear
+nothing worse than a gap.
 
 usage: crash.py BRIDGE TERMINATIONS SECONDS KILLS
 

@@ -5,7 +5,7 @@ import time
 
 from loopback import free_ports
 
-# Seconds after which the unit starts a gateway that has ended.
+# Seconds after which the unit starts a gateway that has exited.
 RESTART = 0.1
 
 

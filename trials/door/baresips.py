@@ -1,4 +1,4 @@
-"""Baresips for trials: each calls a room, says a tone, and records what it hears. They need the Debian package
+"""Baresips for trials: each calls a room, plays a tone, and records what it hears. They need the Debian package
 baresip-core."""
 import subprocess
 import wave

@@ -1,5 +1,5 @@
 """Upgrades two gateways one after the other under 100 calls: each is drained, ended and started again, and then serves.
-Two of ten callers in each room are isolated. Each caller says his own tone, and the trial searches what each receives
+Two of ten callers in each room are isolated. Each caller sends his own tone, and the trial searches what each receives
 for the others' tones: how long a caller doesn't hear another one, and whether anybody hears a caller whom he mustn't
 hear.
 

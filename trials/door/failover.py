@@ -1,4 +1,4 @@
-"""Kills the gateway of 60 callers, each of whom says his own tone, and finds out from the spectrum of what each
+"""Kills the gateway of 60 callers, each of whom sends his own tone, and finds out from the spectrum of what each
 receives when they all hear each other again. Two of them are isolated: nobody may hear them, and they may hear nobody.
 
 usage: failover.py [KILLS [journal]]

@@ -1,7 +1,7 @@
-"""Hostile senders during 200 calls: mutated messages of all kinds at 2,000 a second, messages that take long to read,
-connections over TCP, TLS and HTTP that send nothing, part of a request or garbage, and floods of new connections, among
-them browsers' offers by a link. They come from 20 addresses that may call. Meanwhile, callers talk, call and hang up:
-none of them may lose a packet or wait longer than 200 ms.
+"""Hostile senders during 200 calls: mutated messages of all kinds at 2,000 a second, messages that take a long time to
+read, connections over TCP, TLS and HTTP that send nothing, part of a request or garbage, and floods of new connections,
+among them browsers' offers by a link. They come from 20 addresses that may call. Meanwhile, callers talk, call and hang
+up: none of them may lose a packet or wait longer than 200 ms.
 
 usage: hostile.py [MINUTES]
 The default is 60. It needs openssl and rtpengine.

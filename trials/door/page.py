@@ -81,7 +81,7 @@ class Page:
 
 
 class Loop(Phones):
-    """Phones that are served by a thread, which also calls."""
+    """Phones that a thread serves. The thread also makes their calls."""
 
     def __init__(self, phones):
         super().__init__(phones)

@@ -1,6 +1,6 @@
 """Three baresips behind a NAT call a room through Kamailio and rtpengine, with the files in deploy/proxy: with RTP,
 with SRTP over TCP, and with DTLS-SRTP and ICE, as a browser would. Each hears the others. One is isolated, and hears
-nobody. A gateway is killed, and they hear each other on the other gateway. At the end, all are hung up.
+nobody. A gateway is killed, and they hear each other on the other gateway. At the end, all calls are ended.
 
 Each host is its own network namespace; the controller and the gateways share one. It needs root, and the Debian
 packages kamailio, rtpengine-daemon, iptables and baresip-core.

@@ -1,5 +1,5 @@
-"""Two baresips call a room over TLS and hear each other. A third one calls over UDP. One is hung up by HTTP, and gets
-its BYE over its own connection.
+"""Two baresips call a room over TLS and hear each other. A third one calls over UDP. One is disconnected over HTTP,
+and gets its BYE over its own connection.
 
 It needs the Debian package baresip-core, and openssl.
 """

@@ -1,4 +1,4 @@
-"""People join by links from headless Chromium, through rtpengine, into a room with two plain SIP phones. Each says a
+"""People join by links from headless Chromium, through rtpengine, into a room with two plain SIP phones. Each plays a
 tone. The trial finds out who hears whom from each packet to the phones, and from each 10 ms that Chromium plays. Ten
 people are in the room while rtpengine, a gateway and the controller are killed. Then UDP is blocked, and a TURN server
 helps.
@@ -47,7 +47,7 @@ addEventListener("click", () => marks.click ??= now(), true);"""
 
 
 class Browser:
-    """A tab that says a tone."""
+    """A tab that plays a tone."""
 
     def __init__(self, door, pitch, amplitude=8000):
         self.door, self.pitch = door, pitch
@@ -123,7 +123,7 @@ def turn_server(folder):
 
 
 class Tabs:
-    """More people, as tabs of a browser that says a tone."""
+    """More people, as tabs of a browser that plays a tone."""
 
     def __init__(self, browser, tokens):
         self.browser, self.tabs = browser, []

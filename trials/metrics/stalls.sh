@@ -1,5 +1,5 @@
 #!/bin/sh
-# Measures whether writing metrics, or a disk that is busy meanwhile, delays the packets that callers are sent.
+# Measures whether writing metrics, or a disk that is busy meanwhile, delays the packets to callers.
 # usage: stalls.sh [--gateway PATH]
 # It needs python3, and measures the program in dist/, or the one at PATH. It takes three minutes and writes up to 64 MB
 # to the folder for temporary files (TMPDIR), which should be on a disk.

@@ -225,7 +225,7 @@ def hang(system):
 
 
 def crashes(system):
-    """The unit of a gateway that ends again and again fails, and is started again later."""
+    """If a gateway exits again and again, its unit fails, and is started again later."""
     for _ in range(8):
         main, = system.show("lobbysorrel@2", "MainPID")
         if main != "0":

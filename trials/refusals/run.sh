@@ -122,7 +122,7 @@ for kind in memory read write receive send wait; do
     PYTHONPATH=$here/.. python3 "$here/serve.py" "$bridge" "$work/refuse.so" "$kind"
 done
 
-# A session that gets no line after the write that fails. `serve` must not end as if everything was printed.
+# A session that gets no line after the write that fails. `serve` must not exit as if everything had been printed.
 name=serve
 printf 'stats\ntick\nstats\nquit\n' > "$work/session"
 serve() {

@@ -23,7 +23,7 @@ use Rattle.mg_heard.specs.Reported.{WritesReport, WritesVerdict}
 use Rattle.mg_heard.specs.Times.{extent_of}
 use Rattle.mg_heard.specs.Told.{TellsAll}
 use Rattle.mg_heard.specs.Verdict.{verdict_at}
-use Rattle.mg_heard.proofs.KeepingLemmas.{tells_weaker}
+use Rattle.mg_heard.proofs.KeptTickLemmas.{tells_weaker}
 use Rattle.mg_options.specs.declared.status.Status.{Status}
 use Rattle.mg_hearing.specs.declared.question.Question.{Question}
 use Rattle.mg_hearing.specs.Absence.{absences}

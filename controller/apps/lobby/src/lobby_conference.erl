@@ -93,7 +93,7 @@ want(Row = #{id := Id, from := From, moved := Moved}, C = #conference{held = Hel
     end,
     With = (unblock(Id, C))#conference{members = replaced(Row, C#conference.members), arriving = Came},
     case maps:take(Id, C#conference.departing) of
-        %% The member returns before the old termination was released. The member's flows were no longer tracked.
+        %% The member returns before the old termination has been released. The member's flows were no longer tracked.
         {_, Departing} -> doubt(With#conference{departing = Departing});
         error -> agree(is_map_key(Id, Held) andalso layers(row(Id, C)) =/= layers(Row), With)
     end.
@@ -314,7 +314,7 @@ next(C0) ->
              fun settle/1, fun release/1],
     {next(Parts, C), C}.
 
-%% A single member has no topology. That of a large conference doesn't fit into a reply, so all its flows count as open,
+%% A single member has no topology. That of a large conference may not fit into a reply, so all its flows count as open,
 %% and the forbidden flows are closed again.
 suspected(C = #conference{doubts = [inventory | Doubts], context = new}) ->
     suspected(C#conference{doubts = Doubts});
@@ -513,7 +513,7 @@ done(Step, {ok, Reply = #{results := Results}, Owners}, C) ->
 failed(C) ->
     {[failed], doubt(C)}.
 
-%% The gateway deletes a context with its last termination.
+%% The gateway ends a context when its last termination leaves.
 ended(C = #conference{context = Context, held = Held, leaving = Leaving}) when map_size(Held) =:= 0 ->
     case lists:keymember(Context, 1, Leaving) of
         true -> C;

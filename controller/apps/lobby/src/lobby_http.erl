@@ -1,5 +1,5 @@
 %%% @doc The HTTP interface and its page, on OTP's httpd. Requests carry a token (RFC 6750). A viewer's token can only
-%%% read.
+%%% read, except for the audit log.
 %%%
 %%% httpd reads chunked bodies of any size, and waits for a body forever. So this module also customizes httpd: it
 %%% rejects chunked bodies, and starts a timer for each body.

@@ -2,12 +2,12 @@
 %%% which keepalived (VRRP) gives to one host at a time, or a file, for another cluster manager. `lobby_lease_core'
 %%% makes the decisions; this process checks the lease, listens to the other node, and acts.
 %%%
-%%% A serving node ends itself if it loses the lease, or if the other node began to serve later. It also ends itself if
-%%% its own timer shows a gap in which it may have lost the lease, so that it sends nothing after such a gap. A standby
-%%% ends itself if it may miss changes of the other node. After its restart, it copies the other node's data. So no two
-%%% nodes change the same conferences, and no node serves without changes that were answered.
+%%% A serving node exits if it loses the lease, or if the other node began to serve later. It also exits if its own
+%%% timer shows a gap in which it may have lost the lease, so that it sends nothing after such a gap. A standby exits if
+%%% it may miss changes of the other node. After its restart, it copies the other node's data. So no two nodes change
+%%% the same conferences, and no node serves without changes that were answered.
 %%%
-%%% Each node reports its priority to keepalived, through a program that also notices if the node hangs or ends. A
+%%% Each node reports its priority to keepalived, through a program that also notices if the node hangs or exits. A
 %%% serving node that reaches a gateway has a higher priority than a standby. If both nodes serve because they were cut
 %%% off from each other, the node that began later has the higher priority. A serving node that hasn't reached a gateway
 %%% for a while has a lower priority than a standby.
@@ -45,7 +45,7 @@
 start_link(Config, Serving) ->
     gen_server:start_link({local, ?MODULE}, ?MODULE, {Config, Serving}, []).
 
-%% @doc Ends the node if it may have lost the lease. Call this before each message is sent.
+%% @doc Exits if the node may have lost the lease. Call this before each message is sent.
 -spec hold() -> ok.
 hold() ->
     case persistent_term:get(?MODULE, none) of

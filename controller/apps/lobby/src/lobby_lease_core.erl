@@ -1,6 +1,6 @@
-%%% @doc The decisions of a node of a pair: when it serves or ends itself, when it drops the other node, and until when
-%%% the other node may take over without the latest writes. This module uses no processes, clocks or mnesia. Events
-%%% carry times, in milliseconds of the node's own clock.
+%%% @doc The decisions of a node of a pair: when it serves or exits, when it drops the other node, and until when the
+%%% other node may take over without the latest writes. This module uses no processes, clocks or mnesia. Events carry
+%%% times, in milliseconds of the node's own clock.
 %%%
 %%% A standby takes over only while it has a grant. Each of its beats carries a stamp, its own time. The serving node
 %%% grants by sending back the last stamp, if the standby has a copy of all writes. The grant ends ALONE after that
@@ -14,8 +14,8 @@
 -export([new/1, handle/2]).
 -export_type([options/0, event/0, action/0, seen/0, said/0, permit/0, state/0]).
 
-%% Milliseconds between beats; milliseconds after which a standby without a grant ends itself; and a margin for clocks
-%% that differ in speed.
+%% Milliseconds between beats; milliseconds after which a standby without a grant exits; and a margin for clocks that
+%% differ in speed.
 -define(BEAT, 100).
 -define(ALONE, 3000).
 -define(DRIFT, 10).
@@ -119,8 +119,8 @@ opened(#{open := true}, State = #state{role = waiting, connected = Connected, pe
 opened(_, State) ->
     {State, []}.
 
-%% A node that served ends itself without the lease, even if this process doesn't serve yet. A standby ends itself
-%% without a grant, because it may miss changes of the other node.
+%% A node that has served exits if it doesn't have the lease, even if this process doesn't serve yet. A standby exits if
+%% it has no grant, because it may miss changes of the other node.
 looked(#{lease := false}, _, #state{permit = serves}) ->
     throw({stop, "another node has the lease"});
 looked(_, Now, #state{role = standby, permit = #told{since = Since, until = Until}})

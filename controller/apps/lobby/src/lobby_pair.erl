@@ -5,7 +5,7 @@
 -export_type([config/0, command/0]).
 
 %% `lease': which node serves, see `lobby_lease'. `ready': the file that keepalived tracks. `gap': milliseconds without
-%% a check of the lease after which a node ends itself, and without a message after which the other node counts as lost.
+%% a check of the lease after which a node exits, and without a message after which the other node counts as lost.
 -type config() :: #{self := node(), peer := node(), cookie := binary(), lease := address | {file, file:filename()},
                     ready := file:filename() | none, gap := pos_integer()}.
 %% `create': creates the store, before the first start, on one of the nodes. `alone': lets the next start go ahead

@@ -1,9 +1,9 @@
 %%% @doc The process of a room: its name, its timers, and its row in the store. `lobby_room_core' makes the decisions. A
 %%% room is started when it is created or admits its first member, and restarted from the store.
 %%%
-%%% The room sends a member's process, which is registered as `{member, Id}', messages `{lobby_room, Name, Event}',
-%%% where the event is `{admitted, Result}', `{report, Report}' or `silent'. The member's process sends events to the
-%%% room with `lobby_room:tell/2'.
+%%% The room sends messages `{lobby_room, Name, Event}' to a member's process, which is registered as `{member, Id}'.
+%%% The event is `{admitted, Result}', `{report, Report}' or `silent'. The member's process sends events to the room
+%%% with `lobby_room:tell/2'.
 -module(lobby_room).
 -behaviour(gen_server).
 

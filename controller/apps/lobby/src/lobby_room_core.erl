@@ -196,7 +196,7 @@ event({lost, Gateway}, _, Room = #room{gateway = Gateway}) ->
     lost(Room);
 event({returned, Gateway}, _, Room = #room{gateway = Gateway, conference = C}) ->
     act({count, lobby_conferences_kept_total}, Room#room{conference = lobby_conference:check(C), packets = #{}});
-%% The room leaves the gateway as if it were full.
+%% The room leaves the gateway as if the gateway were full.
 event({leave, Gateway}, _, Room = #room{gateway = Gateway}) ->
     Room#room{full = true};
 event(retry, _, Room = #room{conference = C}) ->

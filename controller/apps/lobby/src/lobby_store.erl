@@ -1,6 +1,6 @@
 %%% @doc Keeps the state that outlives its processes: rooms, calls, and our terminations on gateways. With a folder for
-%%% mnesia, the state also outlives the node. In a pair, each node has a copy, and a write is on both nodes before
-%%% `put/3' returns.
+%%% mnesia, the state also outlives the node. In a pair, each node has a copy, and a write is on both nodes, unless one
+%%% is away, before `put/3' returns.
 %%%
 %%% A node of a pair with an empty folder waits for the other node, and copies its tables. A node that ended as the
 %%% standby waits for the node that served, because only that node has the latest changes.

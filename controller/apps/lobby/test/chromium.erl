@@ -1,5 +1,5 @@
-%% A headless Chromium for tests. It reads commands of the DevTools protocol from a pipe, and ends with the pipe. Its
-%% pages keep each packet that they receive, decrypted but not yet decoded.
+%% A headless Chromium for tests. It reads commands of the DevTools protocol from a pipe, and exits when the pipe
+%% closes. Its pages keep each packet that they receive, decrypted but not yet decoded.
 -module(chromium).
 
 -export([start/2, stop/1, tab/1, close/1, open/2, value/2, text/1, key/2, press/2, packets/1, ask/3, microphone/3]).

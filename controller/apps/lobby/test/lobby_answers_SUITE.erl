@@ -276,7 +276,7 @@ a_stranger_is_not_read(Config) ->
     ?assertEqual(none, phone:status(answer(options([]), Config))),
     ?assertEqual(none, phone:status(answer(invite([]), Config))).
 
-%% Messages that could take long to read, such as 58 KB of Contact and 8 KB of Route, don't block other senders.
+%% Messages that could take a long time to read, such as 58 KB of Contact and 8 KB of Route, don't block other senders.
 a_bomb_stops_nobody(Config) ->
     Phone = phone:start(sip(Config)),
     [phone:send(options([{Name, lists:join(",", lists:duplicate(Count, Value))}]), Phone)

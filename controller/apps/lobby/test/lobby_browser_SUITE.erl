@@ -59,7 +59,7 @@ end_per_testcase(_, Config) ->
     ok = lobby_case:stop(),
     Config.
 
-%% Starts rtpengine, which ends with its pipe.
+%% Starts rtpengine, which exits when its pipe closes.
 relayed({_, Port}) ->
     Words = ["rtpengine", "--foreground", "--log-stderr", "--log-level=4", "--config-file=none", "--table=-1", "--delete-delay=0",
              "--interface=inside/127.0.0.1", "--interface=outside/127.0.0.2", "--listen-ng=127.0.0.1:" ++ integer_to_list(Port)],

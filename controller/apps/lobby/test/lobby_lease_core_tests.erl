@@ -106,7 +106,7 @@ a_new_process_revokes_what_the_one_before_granted_test() ->
 a_standby_without_a_grant_ends_after_3_s_test() ->
     ?assertEqual([], stops([tick(3100)], standby())),
     ?assertMatch([_], stops([tick(3101)], standby())),
-    %% A standby ends even if it hears the other node.
+    %% A standby without a grant exits even if it hears the other node.
     ?assertMatch([_], stops([heard({serving, 4}, 3090), tick(3101)], standby())),
     ?assertEqual([], stops([granted(200, 300), tick(3200)], standby())),
     ?assertMatch([_], stops([granted(200, 300), tick(3201)], standby())).
@@ -117,7 +117,7 @@ a_process_that_is_started_again_needs_a_grant_test() ->
     ?assertMatch([_], stops([heard(waiting, 20), tick(40), tick(3001)], new(told))),
     ?assertEqual([5], serves([heard(waiting, 10), lease(20)], new(free))).
 
-%% The node has served, so its new process serves or ends.
+%% The node has served, so its new process serves or exits.
 a_process_of_a_node_that_served_is_started_again_test() ->
     ?assertEqual([5], serves([lease(0)], new(serves))),
     ?assertMatch([_], stops([tick(0)], new(serves))),
@@ -371,7 +371,7 @@ change(Name, Pair = #pair{changes = N}) ->
 
 hangs(Name, Pair) -> (node_of(Name, Pair))#node.hangs > Pair#pair.now.
 
-%% Time passes in steps of 10 ms. A node ticks every 20 ms unless it hangs, and ends itself after a gap.
+%% Time passes in steps of 10 ms. A node ticks every 20 ms unless it hangs, and exits after a gap.
 pass(Ms, Pair) when Ms =< 0 -> Pair;
 pass(Ms, Pair = #pair{now = Now}) ->
     Delivered = deliver(written(a, written(b, Pair#pair{now = Now + 10}))),

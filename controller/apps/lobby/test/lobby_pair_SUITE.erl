@@ -6,7 +6,7 @@
 
 -compile([export_all]).
 
-%% The pair's `gap', in milliseconds. It is long here, so that no node ends itself because a busy machine pauses for some
+%% The pair's `gap', in milliseconds. It is long here, so that no node exits because a busy machine pauses for some
 %% hundred milliseconds.
 -define(GAP, 2500).
 -define(SHORT_GAP, 1000).
@@ -26,7 +26,7 @@ all() ->
 
 init_per_testcase(Case, Config) -> begun(Case, Config, 3).
 
-%% Starts a case again if the machine paused and a node, which couldn't check its lease in time, has ended itself.
+%% Starts a case again if the machine paused and a node, which couldn't check its lease in time, has exited.
 begun(Case, Config, Tries) ->
     try begun(Case, Config)
     catch exit:{_, {gen_server, call, _}} when Tries > 1 ->
@@ -57,13 +57,13 @@ begun(Case, Config) ->
     lobby_case:until(fun() -> serves(A) end),
     [{a, A}, {b, B} | Config1].
 
-%% A write waits until the standby that hangs is disconnected, and this case looks at what comes after that.
+%% A write waits until the standby that hangs is disconnected, and this case tests what follows.
 gap(a_standby_that_hangs) -> ?SHORT_GAP;
 gap(_) -> ?GAP.
 
 end_per_testcase(_, Config) ->
     ok = ended_all(),
-    %% The programs that write the files end a moment later than the nodes.
+    %% The programs that write the files exit a moment later than the nodes.
     "" = os:cmd("sleep 0.5; rm -r " ++ proplists:get_value(folder, Config)),
     Config.
 

@@ -2,8 +2,8 @@
 
 -include_lib("eunit/include/eunit.hrl").
 
-%% If nothing can be sent, as while the network is down, requests fail and the process that looks goes on. The kernel
-%% refuses to send to this address.
+%% If nothing can be sent, as while the network is down, requests fail, and the process that checks rtpengine continues.
+%% The kernel refuses to send to this address.
 nothing_can_be_sent_test_() -> {timeout, 60, fun() ->
     ok = application:set_env(lobby, rtpengine, {{255, 255, 255, 255}, 2223}),
     {ok, Pid} = lobby_rtpengine:start_link({{255, 255, 255, 255}, 2223}),

@@ -1,5 +1,5 @@
 %% Searches all sequences of events in small worlds of people, rooms and proved gateways. No limit ends these searches,
-%% so if a search finds nothing, no sequence of events breaks a promise.
+%% so if a search finds nothing, no sequence of events in its world breaks a promise.
 -module(lobby_search_tests).
 
 -include_lib("eunit/include/eunit.hrl").

@@ -552,7 +552,8 @@ person_acts(Id, {answer, {joins, Id}, {error, _}}, W = #world{people = People}) 
     W#world{people = maps:remove(Id, People)};
 person_acts(_, {answer, _, _}, W) -> W.
 
-%% Sends an event to a room, like `lobby_room'. Starts the room if the event admits a member, or if the room is stored.
+%% Sends an event to a room, as `lobby_room' does. Starts the room if the event admits a member, or if the room is
+%% stored.
 tell_room(R, Event, From, W = #world{rooms = Rooms, store = Store, options = Options}) ->
     IsNew = lists:member(element(1, Event), [admit, want, rules]),
     case is_map_key(R, Rooms) orelse IsNew orelse is_map_key({lobby_rooms, R}, Store) of

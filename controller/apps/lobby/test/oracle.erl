@@ -37,11 +37,11 @@
 %% The number of gateways that are started in advance, because a start takes as long as 500 lines.
 -define(SPARE, 8).
 %% Nothing marks the end of a line's output, so a line with a known answer follows it. Audits come from another
-%% controller, which acknowledges each answer, so that no reply to an audit is kept.
+%% controller, which acknowledges each answer, so that no reply to an audit stays kept.
 -define(END, "say 127.0.0.9:9 end\n").
 -define(ENDED, <<"say 127.0.0.9:9 ", _/binary>>).
 -define(AUDITOR, "127.0.0.8:8").
-%% The gateway keeps 32 replies, one of which is the reply to an audit.
+%% The gateway keeps 32 replies, one of which is the reply to an audit until its acknowledgement.
 -define(KEPT, 31).
 
 -record(state, {bridge :: file:filename(), arguments :: [string()], address :: binary(), processes :: pos_integer(),

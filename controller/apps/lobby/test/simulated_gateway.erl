@@ -35,7 +35,7 @@ loop(State = #state{socket = Socket, program = Program, contexts = Contexts}) ->
         {Program, {data, {eol, <<"say ", Line/binary>>}}} ->
             loop(answered(Line, State));
         {count, From} ->
-            %% Audits all contexts that ever occurred in a reply, from an unused address.
+            %% Audits, from an unused address, all contexts that have occurred in a reply.
             Known = maps:keys(Contexts),
             [port_command(Program, io_lib:format("say 127.0.0.9:9 MEGACO/1 [127.0.0.9]:9 Transaction=~b{Context=~s{AuditValue=*{Audit{}}}}\n",
                                                  [rand:uniform(1 bsl 31), C])) || C <- Known],

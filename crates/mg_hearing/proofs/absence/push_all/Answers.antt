@@ -1,4 +1,4 @@
-use Rattle.std.proofs.Common.{◌≡◌, ◌∙◌, ◌++◌, ◌<◌, ap, append-nil, arith, false, length, sym, List, ℕ}
+use Rattle.std.proofs.Common.{◌∙◌, ◌++◌, ◌<◌, ap, append-nil, arith, false, length, sym, List, ℕ}
 use Rattle.mg_hearing.proofs.AbsenceLemmas.{absences_done, absences_more}
 use Rattle.mg_hearing.proofs.absence.push_all.Goals as goal
 

@@ -33,5 +33,5 @@ returns-in-Ok-write_violation g c =
           (held c.args.output.now) (held c.write_violation.new.writer) found missing (says c.args.errors.now errors)
           (status_for found) first is h c.in-Ok-write_violation.ensures.written refl
           (receives_from g.E.Write.contents c.args.errors.now c.read_title.new.errors errors text c.in-Ok.ensures.silent said))
-          (rw c.as_slice-3.ensures.value at c.end_watch.ensures.value);
+          (rw c.as_slice-in-Ok-write_violation.ensures.value at c.end_watch.ensures.value);
     }

@@ -50,15 +50,19 @@ configured(File) ->
         end
     end.
 
-%% Ends the node when the application ends, so that the service manager starts a new node.
+%% Ends the node when the application or its store ends, so that the service manager starts a new node. Mnesia, for
+%% example, ends when the disk is full.
 watch() ->
-    Monitor = monitor(process, lobby_sup),
+    _ = [monitor(process, Name) || Name <- [lobby_sup, mnesia_sup]],
     receive
-        {'DOWN', Monitor, process, _, Reason} -> case init:get_status() of
+        {'DOWN', _, process, {Name, _}, Reason} -> case init:get_status() of
             {stopping, _} -> ok;
-            _ -> stop(1, io_lib:format("the application ended: ~0P", [Reason, 30]))
+            _ -> stop(1, io_lib:format("~s ended: ~0P", [what(Name), Reason, 30]))
         end
     end.
+
+what(lobby_sup) -> "the application";
+what(mnesia_sup) -> "the store".
 
 -spec stop(1 | 2, iodata()) -> no_return().
 stop(Status, Text) ->

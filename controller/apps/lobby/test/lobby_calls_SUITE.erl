@@ -14,7 +14,7 @@ all() ->
      session_timers, who_is_silent_is_asked, what_the_gateway_drops_is_logged, requests_that_are_refused, limits, addresses_that_may_call, passwords, a_lost_gateway_is_replaced, who_moves_after_a_loss_is_awaited, who_invites_during_a_loss_is_not_awaited,
      sixty_callers_hear_each_other_again, our_invite_is_repeated_and_acknowledged, both_invite_at_once,
      who_vanished_is_removed, who_refuses_our_invite_is_hung_up, hung_up_and_moved, hung_up_during_a_change, who_is_hung_up_stays_away, addresses_of_ipv6, routes, a_call_that_starts_again_knows_its_place, a_call_that_fails_while_it_joins,
-     a_call_that_fails_again_and_again_ends, a_call_that_fails_at_its_start_is_started_again, a_call_outlives_a_slow_supervisor, an_answer_that_comes_after_a_failure, a_call_that_fails_during_a_change, processes_fail, the_node_fails, garbage,
+     a_call_that_fails_again_and_again_ends, a_call_that_fails_at_its_start_is_started_again, a_call_outlives_a_slow_supervisor, an_answer_that_comes_after_a_failure, a_call_that_fails_during_a_change, processes_fail, the_node_fails, the_store_ends, garbage,
      over_tcp, connections_are_limited, answers_are_quick, sipp, baresips].
 
 init_per_testcase(Case, Config) ->
@@ -612,6 +612,19 @@ the_node_fails(Config) ->
     lobby_case:until(fun() -> map_size(maps:get(members, peer:call(Second, people, describe, [<<"100">>]))) =:= 1 end),
     peer:stop(Second),
     ok = file:del_dir_r(Folder).
+
+%% Mnesia ends when it can't write. Without the store, the controller could do nothing, so its node ends, too.
+the_store_ends(_) ->
+    File = string:trim(os:cmd("mktemp")),
+    Gateway = #{name => <<"1">>, address => gateway:free_address()},
+    Env = [{gateways, [Gateway]}, {sip, gateway:free_address()}, {http, gateway:free_address()}],
+    ok = file:write_file(File, io_lib:format("~p.~n", [[{lobby, Env}]])),
+    {ok, Peer, _} = peer:start(#{connection => standard_io, args => ["-pa" | code:get_path()]}),
+    ok = peer:call(Peer, lobby_app, run, [[File]], 30000),
+    Monitor = monitor(process, Peer),
+    stopped = peer:call(Peer, mnesia, stop, []),
+    receive {'DOWN', Monitor, process, Peer, _} -> ok after 20000 -> error(has_not_ended) end,
+    ok = file:delete(File).
 
 %% The conference is recreated while a call's process restarts. The call continues, and the phone gets the new address
 %% in a re-INVITE.

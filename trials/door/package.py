@@ -10,6 +10,7 @@ import socket
 import sys
 from pathlib import Path
 from types import SimpleNamespace
+from urllib.request import Request, urlopen
 
 from door import ROOT, Phone, Phones, check, finish, until
 from gateways import both_alive, soon
@@ -65,7 +66,7 @@ class Caller:
 def wrong_start(system, what, script, wanted, said):
     done = system.tried(f"{script}; systemctl restart {UNIT}")
     state, status, restarts = system.show(UNIT, "ActiveState", "ExecMainStatus", "NRestarts")
-    told = soon(lambda: said in system.run(f"journalctl -u {UNIT} -o cat -n 9"), 3)
+    told = soon(lambda: said in system.run(f"journalctl -u {UNIT} -o cat -n 30"), 3)
     check(f"{what}: start fails with {done.returncode}, then {state}, status {status}, restarts: {restarts}; the log says so: "
           f"{told}", done.returncode and (state, status, restarts) == ("failed", wanted, "0") and told)
     system.tried(f"systemctl reset-failed {UNIT}")
@@ -91,7 +92,7 @@ def install(system):
     wrong_start(system, "a configuration that is no Erlang", f"{copy}; echo '}}' >> {CONFIG}", "2", "syntax error")
     wrong_start(system, "a wrong value", f"{copy}; sed -i 's/returns => 1000/returns => -1/' {CONFIG}", "2",
                 "returns must be a whole number from 0 to 20000, not -1")
-    token = "s|{tokens, .*}|{tokens, [{<<\"sixteen bytes or more\">>, viewer}]}|"
+    token = "s|{tokens, .*}|{tokens, [{<<\"sixteen bytes or more\">>, operator}]}|"
     system.run(f"{copy}; sed -i '{token}' {CONFIG}; systemctl enable {UNIT}")
     port_in_use(system)
     return before
@@ -117,6 +118,21 @@ def service(system):
     exposure = system.run(f"systemd-analyze security --no-pager {UNIT} | tail -n 1")
     check(f"the gateways answer: {both_alive()}; they serve the controller: {serves}; it runs as user {user}; {exposure.lstrip('→ ')}",
           serves and user != "0" and float(re.search(r": (\d+\.\d)", exposure)[1]) <= 2.0)
+
+
+def changes(system):
+    """A change is made, and the audit log has its lines."""
+    main = system.show(UNIT, "MainPID")
+    request = Request("http://127.0.0.1:8080/rooms/200", b'{"preset": "coaching"}', method="PUT",
+                      headers={"Authorization": "Bearer sixteen bytes or more"})
+    try:
+        answer = urlopen(request, timeout=5).status
+    except OSError as fault:
+        answer = fault
+    lines = system.tried("cd /var/lib/lobbysorrel-controller; grep -c PUT audit.jsonl; stat -c %a audit.jsonl").stdout.split()
+    runs = system.show(UNIT, "MainPID") == main
+    check(f"a change: {answer}; the audit log's lines about it, and its mode: {lines}; the controller still runs: {runs}",
+          answer == 200 and lines == ["1", "600"] and runs)
 
 
 def failures(system):
@@ -186,6 +202,7 @@ def main():
         system.boot()
         before = install(system)
         service(system)
+        changes(system)
         status(system)
         failures(system)
         upgrade(system, version)

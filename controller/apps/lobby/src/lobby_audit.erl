@@ -5,6 +5,8 @@
 -module(lobby_audit).
 -behaviour(gen_server).
 
+-include_lib("kernel/include/file.hrl").
+
 -export([start_link/1, write/1, note/1, began/1, ended/3, read/1, names/1, received/3]).
 -export([init/1, handle_call/3, handle_cast/2]).
 -export_type([config/0, call/0]).
@@ -154,13 +156,21 @@ rotated(_, State) -> State.
 opened(State = #state{file = none, config = #{file := Name}}) ->
     case file:open(Name, [append, raw, binary]) of
         {ok, File} ->
-            _ = file:change_mode(Name, 8#600),
+            ok = private(Name),
             {ok, Size} = file:position(File, eof),
             Opened = State#state{file = File, size = Size},
             case Size =:= 0 orelse file:write(File, <<"\n">>) of {error, _} -> closed(Opened); _ -> Opened end;
         {error, _} -> State
     end;
 opened(State) -> State.
+
+%% Lets only the owner read the file. Under systemd, the umask has done so, and `file:change_mode/2' isn't allowed,
+%% because it also sets the file's owner.
+private(Name) ->
+    case file:read_file_info(Name, [raw]) of
+        {ok, #file_info{mode = Mode}} when Mode band 8#077 =:= 0 -> ok;
+        _ -> _ = file:change_mode(Name, 8#600), ok
+    end.
 
 closed(State = #state{file = none}) -> State;
 closed(State = #state{file = File}) ->

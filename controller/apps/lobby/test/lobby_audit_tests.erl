@@ -1,6 +1,7 @@
 -module(lobby_audit_tests).
 
 -include_lib("eunit/include/eunit.hrl").
+-include_lib("kernel/include/file.hrl").
 
 %% Runs a test with its own log, whose files have about three lines.
 audited(Test) ->
@@ -53,6 +54,28 @@ a_kill_in_a_line_test_() -> {timeout, 600, fun() -> audited(fun(Config = #{file 
          ok = stop(Again)
      end || Size <- lists:seq(0, byte_size(Whole))]
 end) end}.
+
+%% Only the owner can read a log. The mode of a private file isn't changed: that call also sets the owner, for which the
+%% unit's sandbox used to kill the controller.
+a_log_is_private_test() -> audited(fun(Config = #{file := File}) ->
+    Mode = fun() ->
+        {ok, #file_info{mode = M}} = file:read_file_info(File),
+        M band 8#777
+    end,
+    Written = fun() ->
+        Pid = start(Config),
+        _ = erlang:trace(Pid, true, [call]),
+        ok = write(1),
+        ok = stop(Pid),
+        receive {trace, Pid, call, {file, change_mode, _}} -> true after 100 -> false end
+    end,
+    1 = erlang:trace_pattern({file, change_mode, 2}, true, [global]),
+    ok = file:write_file(File, ""),
+    ok = file:change_mode(File, 8#644),
+    ?assertEqual({true, 8#600}, {Written(), Mode()}),
+    ?assertEqual({false, 8#600}, {Written(), Mode()}),
+    1 = erlang:trace_pattern({file, change_mode, 2}, false, [global])
+end).
 
 %% Only the oldest files are deleted.
 files_are_renamed_test() -> audited(fun(Config) ->

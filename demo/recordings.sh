@@ -1,4 +1,4 @@
-# Extracts speech and packets from a recording, using tools that every distribution has. Source it in a shell:
+# Extracts speech from a recording or a replay, and packets from a network capture. Source it in a shell:
 #     . demo/recordings.sh
 # It needs xxd, sox and tcpdump.
 

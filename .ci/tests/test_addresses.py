@@ -1,5 +1,8 @@
-"""Options that name addresses."""
-from programs import FIRST, Commands, ports
+"""Options that name addresses, and gateways with several addresses."""
+import contextlib
+
+from media import add, added, conference, request
+from programs import FIRST, Commands, Gateway, counted, ports, udp, waiting
 
 
 class Addresses(Commands):
@@ -46,6 +49,17 @@ class Addresses(Commands):
             "--controller=10.0.0.9",
         )
 
+    def test_to_bind(self):
+        words = ["serve", "--control-port=0", *(f"--bind-address=127.0.0.{n}" for n in range(1, 9))]
+        self.refuses("bad configuration: --control-port", *words)
+        self.refuses(
+            "error: invalid value for '--bind-address <ADDRESS>': more than 8 addresses\n",
+            *words,
+            "--bind-address=127.0.0.9",
+        )
+        second = "error: invalid value for '--bind-address <ADDRESS>': not a unicast address\n"
+        self.refuses(second, *words[:3], "--bind-address=224.0.0.1")
+
     def test_of_a_gateway_to_check(self):
         wanted = "error: invalid value for '<ADDRESS:PORT>': not an IPv4 address, a colon and a port\n"
         for text in ("localhost:2944", "127.0.0.1", "127.0.0.1:65536", ":2944"):
@@ -69,3 +83,93 @@ class Addresses(Commands):
     def test_bound_other_than_named(self):
         words = ["serve", "--address=192.0.2.1", "--bind-address=127.0.0.1", *ports(0, 2)]
         self.ends(0, "ready\n", "", *words, text="quit\n")
+
+    def test_bound_twice(self):
+        wanted = "cannot bind 127.0.0.2:{port}: Address already in use (os error 98)\n".format(port=FIRST)
+        for first in ("0.0.0.0", "127.0.0.2"):
+            words = [f"--bind-address={first}", "--bind-address=127.0.0.2", *ports(0, 2)]
+            self.ends(5, "", wanted, "serve", *words, text="quit\n")
+
+    def test_announced(self):
+        words = ["--bind-address=127.0.0.2", "--bind-address=127.0.0.1", *ports(0, 1)]
+        with Gateway("live", *words) as gateway:
+            self.assertIn("bound to: 127.0.0.2 127.0.0.1\n", gateway.said)
+
+
+HOSTS = ("127.0.0.1", "127.0.0.2", "127.0.0.3")
+BOUND = [f"--bind-address={host}" for host in HOSTS]
+AUDIT = "Context=-{AuditValue=ROOT}"
+NAME = f"MEGACO/1 [127.0.0.1]:{FIRST}\n"
+
+
+def reply(number):
+    """The reply to an audit with this number."""
+    return f"{NAME}Reply={number}{{Context=-{{AuditValue=ROOT}}}}".encode()
+
+
+@contextlib.contextmanager
+def controllers():
+    """A socket for each control port. It receives only what that control port sends."""
+    with contextlib.ExitStack() as stack:
+        sockets = [stack.enter_context(udp()) for _ in HOSTS]
+        for host, it in zip(HOSTS, sockets):
+            it.connect((host, FIRST))
+        yield sockets
+
+
+class SeveralControlPorts(Commands):
+    def test_answers_leave_from_the_address_that_was_asked(self):
+        for name in ("serve", "live"):
+            with self.subTest(name), controllers() as asking, Gateway(name, *BOUND, *ports(0, 1)) as gateway:
+                order = [asking[place] for place in (0, 2, 2, 1, 0, 1)] * 4
+                for number, it in enumerate(order, 1):
+                    it.send(request(number, AUDIT))
+                    if number % 4 == 0:
+                        self.poll(gateway, name, number)
+                for number, it in enumerate(order, 1):
+                    self.assertEqual(it.recv(2000), reply(number))
+                self.assertEqual([waiting(it) for it in asking], [[], [], []])
+
+    def poll(self, gateway, name, count):
+        """Has the gateway receive what waits, if it doesn't do so by itself."""
+        if name == "serve":
+            self.assertEqual(gateway.received(count, 0), counted(control=count, sent=count))
+
+    def test_a_retransmission_is_answered_from_its_own_address(self):
+        for name in ("serve", "live"):
+            with self.subTest(name), controllers() as asking, udp() as caller:
+                with Gateway(name, *BOUND, *ports(0, 1)) as gateway:
+                    port = caller.getsockname()[1]
+                    message, answer = conference(add(port)), f"{NAME}Reply=1{{Context=1{{{added(1, FIRST + 2)}}}}}"
+                    for count, place in enumerate((1, 2, 0, 1), 1):
+                        asking[place].send(message)
+                        self.poll(gateway, name, count)
+                        self.assertEqual(asking[place].recv(2000), answer.encode())
+                    # Speech leaves from the first address.
+                    if name == "serve":
+                        gateway.tell("tick")
+                    packet, source = caller.recvfrom(2000)
+                    self.assertEqual((len(packet), source), (172, ("127.0.0.1", FIRST + 2)))
+                    self.assertEqual([waiting(it) for it in asking], [[], [], []])
+
+    def test_a_flood_delays_no_other_address(self):
+        with controllers() as asking, Gateway("serve", *BOUND, *ports(0, 1)) as gateway:
+            for number in range(1, 101):
+                asking[1].send(request(number, AUDIT))
+            for number, it in ((101, asking[0]), (102, asking[2])):
+                it.send(request(number, AUDIT))
+            # A poll receives at most 64 messages, from all control ports together.
+            self.assertEqual(gateway.stats("poll"), counted(control=64, sent=64))
+            self.assertEqual((asking[0].recv(2000), asking[2].recv(2000)), (reply(101), reply(102)))
+            self.assertEqual(gateway.received(102, 0), counted(control=102, sent=102))
+            self.assertEqual([asking[1].recv(2000) for _ in range(100)], [reply(number) for number in range(1, 101)])
+
+    def test_controllers_are_checked_at_each_port(self):
+        with controllers() as asking, udp("127.0.0.2") as listed:
+            listed.connect((HOSTS[2], FIRST))
+            with Gateway("serve", *BOUND, "--controller=127.0.0.2", *ports(0, 1)) as gateway:
+                for it in (*asking, listed):
+                    it.send(request(1, AUDIT))
+                self.assertEqual(gateway.received(1, 0), counted(control=1, sent=1))
+                self.assertEqual(listed.recv(2000), reply(1))
+                self.assertEqual([waiting(it) for it in asking], [[], [], []])

@@ -131,6 +131,12 @@ class Started(Scripts):
                 self.assertEqual(self.said("started", *words, MAINPID=str(process.pid)), ("", 0))
                 self.assertIsNone(process.poll())
 
+    def test_a_gateway_with_several_addresses(self):
+        """It is asked at the first one. Here, it has only this one."""
+        process, words = self.gateway()
+        words += ["--bind-address=127.0.0.1", "--bind-address", "127.0.0.9"]
+        self.assertEqual(self.said("started", *words, MAINPID=str(process.pid)), ("", 0))
+
     def test_a_gateway_that_ends(self):
         _, words = self.gateway()
         ended = subprocess.Popen(["true"])

@@ -24,14 +24,12 @@ use Rattle.mg_engine.specs.declared.config.Config.{Config}
 use Rattle.mg_engine.specs.Config.{standard}
 use Rattle.mg_arguments.specs.declared.invocation.Invocation.{Invocation}
 use Rattle.mg_arguments.specs.declared.invocation.Invocation.TheVariants.{Check}
-use Rattle.mg_arguments.specs.Address.{bind_address}
 use Rattle.mg_arguments.specs.FilePath.{file_path}
 use Rattle.mg_arguments.specs.declared.file_path_fault.FilePathFault.{FilePathFault}
 use Rattle.mg_core.specs.Peer.{peer_of}
 use Rattle.mg_words.specs.declared.peer.Peer.{Peer}
 use Rattle.mg_arguments.specs.declared.address.AddressFault.{AddressFault}
 use Rattle.mg_arguments.specs.declared.controller_fault.ControllerFault.{ControllerFault}
-use Rattle.mg_arguments.specs.declared.bind_address_fault.BindAddressFault.{BindAddressFault}
 use Rattle.mg_journal.specs.declared.durability.Durability.{Durability}
 use Rattle.mg_arguments.specs.declared.service.Service.{Service}
 use Rattle.mg_options.specs.Numbers.{number_or}
@@ -191,25 +189,6 @@ pub refuses_service : (name : Text) (rows : List Row) (address control : List �
 refuses_service name rows address control named commanded refused =
     at_control name rows address control named commanded ∙
     ap (λ (r : Result Service Kinds). r >>= with_service name rows address control) refused
-
--- The value of a bind address that was read: the address, or the fault.
-abbrev some_bound : Result (List ℕ) BindAddressFault → Result (Option (List ℕ)) BindAddressFault
-some_bound read = read >>= (λ address. Ok (Some address))
-
-abbrev bound_by : Option Text → Result (Option (List ℕ)) BindAddressFault
-bound_by named = option_map_or (λ text. some_bound (bind_address text)) named (Ok None)
-
-pub bound_is : (rows : List Row) (text address : List ℕ) → Some text ≡ first_of (codes "bind-address") rows →
-    Ok address ≡ bind_address text → Ok (Some address) ≡ named_by bind_address (codes "bind-address") rows
-bound_is rows text address named is = ap some_bound is ∙ ap bound_by named
-
-pub bound_fails : (rows : List Row) (text : List ℕ) (fault : BindAddressFault) →
-    Some text ≡ first_of (codes "bind-address") rows → Err fault ≡ bind_address text →
-    Err fault ≡ named_by bind_address (codes "bind-address") rows
-bound_fails rows text fault named is = ap some_bound is ∙ ap bound_by named
-
-pub unbound : (rows : List Row) → None ≡ first_of (codes "bind-address") rows → Ok None ≡ named_by bind_address (codes "bind-address") rows
-unbound rows named = ap bound_by named
 
 -- The value of a path that was read: the path, or the fault.
 abbrev some_path : Result (List ℕ) FilePathFault → Result (Option (List ℕ)) FilePathFault

@@ -1,7 +1,7 @@
 pub mod TitleLemmas
 pub mod InvocationLemmas
 pub mod RequestedRows
-pub mod ControllerLemmas
+pub mod ReadLemmas
 pub mod HeardOptionLemmas
 pub mod SealingOptionLemmas
 pub mod RuleLemmas

@@ -1,5 +1,5 @@
 -- The requests of some command lines, as examples.
-use Rattle.std.proofs.Common.{◌≡◌, ℕ, Bool, true, false, List, [], ◌∷◌, Option, Some, None, Ok, Err, refl, codes}
+use Rattle.std.proofs.Common.{◌≡◌, ℕ, Bool, true, false, List, [], ◌∷◌, Option, Some, None, Ok, Err, refl, codes, replicate}
 use Rattle.clap.proofs.OnLiterals.{clap_on_literals}
 use Rattle.clap.specs.Walk.{Text}
 use Rattle.clap.specs.declared.error.kind.ErrorKind.TheVariants as kind
@@ -38,7 +38,7 @@ none_given = record {
 abbrev anybody : ℕ → Service
 anybody report = record {
   controllers = [];
-  bind_address = None;
+  bind_addresses = [];
   report = report;
   records = false;
   symmetric_rtp = false;
@@ -168,15 +168,24 @@ serve_writes_no_metrics = refl
 -- A gateway behind a router that translates addresses one to one.
 live_bound : requested (codes "live" ∷ codes "--address=203.0.113.5" ∷ codes "--bind-address" ∷ codes "10.0.0.1" ∷ []) ≡
     Ok (Live (record standard { address = 203 ∷ 0 ∷ 113 ∷ 5 ∷ []; control_address = 203 ∷ 0 ∷ 113 ∷ 5 ∷ [] })
-    (record (with_given (record none_given { address = true })) { bind_address = Some (10 ∷ 0 ∷ 0 ∷ 1 ∷ []) })
+    (record (with_given (record none_given { address = true })) { bind_addresses = (10 ∷ 0 ∷ 0 ∷ 1 ∷ []) ∷ [] })
     all_drawn 5)
 unfolding requested command_line options config_at address_of clap_on_literals
 live_bound = refl
 
 serve_bound_to_all : requested (codes "serve" ∷ codes "--bind-address=0.0.0.0" ∷ []) ≡
-    Ok (Serve standard (record (anybody 0) { bind_address = Some (0 ∷ 0 ∷ 0 ∷ 0 ∷ []) }))
+    Ok (Serve standard (record (anybody 0) { bind_addresses = (0 ∷ 0 ∷ 0 ∷ 0 ∷ []) ∷ [] }))
 unfolding requested command_line options config_at address_of clap_on_literals
 serve_bound_to_all = refl
+
+serve_bound_to_two : requested (codes "serve" ∷ codes "--bind-address=10.0.0.2" ∷ codes "--bind-address" ∷ codes "10.0.0.1" ∷ [])
+    ≡ Ok (Serve standard (record (anybody 0) { bind_addresses = (10 ∷ 0 ∷ 0 ∷ 2 ∷ []) ∷ (10 ∷ 0 ∷ 0 ∷ 1 ∷ []) ∷ [] }))
+unfolding requested command_line options config_at address_of clap_on_literals
+serve_bound_to_two = refl
+
+live_bound_to_nine : requested (codes "live" ∷ replicate 9 (codes "--bind-address=10.0.0.1")) ≡ Err (kind.ValueValidation ∷ [])
+unfolding requested command_line options config_at clap_on_literals
+live_bound_to_nine = refl
 
 bound_to_many : requested (codes "live" ∷ codes "--bind-address=224.0.0.1" ∷ []) ≡ Err (kind.ValueValidation ∷ [])
 unfolding requested command_line options config_at address_of clap_on_literals

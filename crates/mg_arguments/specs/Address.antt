@@ -1,9 +1,10 @@
 -- The addresses of a gateway, and how they are written.
-use Rattle.std.specs.Prelude.{ℕ, Bool, nat_le, List, [], ◌∷◌, slice_index, ok_or, Result, Ok, Err}
-use Rattle.std.specs.Prelude.{if◌then◌else◌}
+use Rattle.std.specs.Prelude.{ℕ, Bool, nat_le, nat_lt, List, [], ◌∷◌, length, slice_index, ok_or}
+use Rattle.std.specs.Prelude.{Result, Ok, Err, if◌then◌else◌}
 use Rattle.std.specs.Str.{bytes_eq}
 use Rattle.mg_words.specs.Address.{address_of}
 use Rattle.mg_words.specs.ResultSteps.{◌>>=◌}
+use Rattle.mg_arguments.specs.Read.{all_read}
 use Rattle.mg_arguments.specs.declared.address.AddressFault.{AddressFault}
 use Rattle.mg_arguments.specs.declared.address.AddressFault.TheVariants.{Unreadable, Unspecified}
 use Rattle.mg_arguments.specs.declared.address.AddressFault.TheVariants.{Multicast}
@@ -22,8 +23,13 @@ own_address text = do
   if bytes_eq address (0 ∷ 0 ∷ 0 ∷ 0 ∷ []) then Err Unspecified
       else (if is_multicast address then Err Multicast else Ok address)
 
--- The address that sockets are bound to. 0.0.0.0 means all addresses of the machine.
+-- An address that sockets are bound to. 0.0.0.0 means all addresses of the machine.
 abbrev pub bind_address : List ℕ → Result (List ℕ) BindAddressFault
 bind_address text = do
   address ← ok_or (address_of text) bind_faults.Unreadable
   if is_multicast address then Err bind_faults.Multicast else Ok address
+
+-- The addresses that sockets are bound to. There are at most eight.
+abbrev pub bind_addresses_of : List (List ℕ) → Result (List (List ℕ)) BindAddressFault
+bind_addresses_of texts =
+    if nat_lt 8 (length texts) then Err bind_faults.TooMany else all_read bind_address texts

@@ -1,5 +1,5 @@
 -- The addresses of controllers, and how they are written.
-use Rattle.std.specs.Prelude.{ℕ, nat_lt, List, length, Result, Err, if◌then◌else◌}
+use Rattle.std.specs.Prelude.{ℕ, nat_lt, List, length, ok_or, Result, Err, if◌then◌else◌}
 use Rattle.mg_words.specs.Address.{address_of}
 use Rattle.mg_arguments.specs.Read.{all_read}
 use Rattle.mg_arguments.specs.declared.controller_fault.ControllerFault.{ControllerFault}
@@ -9,4 +9,4 @@ use Rattle.mg_arguments.specs.declared.controller_fault.ControllerFault.TheVaria
 -- The addresses of the controllers, in dotted decimal. There are at most eight.
 abbrev pub controllers_of : List (List ℕ) → Result (List (List ℕ)) ControllerFault
 controllers_of texts = if nat_lt 8 (length texts) then Err TooMany
-    else all_read address_of Unreadable texts
+    else all_read (λ text. ok_or (address_of text) Unreadable) texts

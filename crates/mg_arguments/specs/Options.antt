@@ -41,7 +41,7 @@ use Rattle.mg_arguments.specs.declared.invocation.Invocation.TheVariants.{Heard,
 use Rattle.mg_arguments.specs.declared.invocation.Invocation.TheVariants.{Verify, Seal}
 use Rattle.mg_arguments.specs.declared.service.Service.{Service}
 use Rattle.mg_arguments.specs.declared.controller_fault.ControllerFault.{ControllerFault}
-use Rattle.mg_arguments.specs.Address.{bind_address, own_address}
+use Rattle.mg_arguments.specs.Address.{bind_addresses_of, own_address}
 use Rattle.mg_arguments.specs.Controllers.{controllers_of}
 use Rattle.mg_arguments.specs.FilePath.{file_path}
 use Rattle.mg_arguments.specs.declared.rule_fault.RuleFault.{RuleFault}
@@ -75,7 +75,8 @@ flag_rule name = record (new_rule name) { long = Some name; action = Some SetTru
 -- A subcommand for a gateway on sockets.
 abbrev pub sockets_line : Text → App
 sockets_line name =
-    fold with_rule (subcommand_line name) (text_rule (codes "bind-address") ∷ repeated_rule (codes "controller")
+    fold with_rule (subcommand_line name) (repeated_rule (codes "bind-address")
+    ∷ repeated_rule (codes "controller")
     ∷ number_rule (codes "report") 0 65535 ∷ flag_rule (codes "record")
     ∷ flag_rule (codes "symmetric-rtp") ∷ text_rule (codes "journal") ∷ flag_rule (codes "sync")
     ∷ flag_rule (codes "fence") ∷ flag_rule (codes "fence-strict")
@@ -209,14 +210,14 @@ valid (Err fault) = Err (ValueValidation ∷ [])
 abbrev pub service_in : List Row → Result Service Kinds
 service_in found = do
   controllers ← valid (controllers_in found)
-  bound ← valid (named_by bind_address (codes "bind-address") found)
+  bound ← valid (bind_addresses_of (unwrap_or (all_of (codes "bind-address") found) []))
   metrics ← valid (named_by file_path (codes "metrics") found)
   journal ← valid (named_by file_path (codes "journal") found)
   durability ← durability_in journal found
   fence ← fence_in controllers found
   Ok (record {
     controllers = controllers;
-    bind_address = bound;
+    bind_addresses = bound;
     report = number_or 65536 (codes "report") 0 found;
     records = is_set (codes "record") found;
     symmetric_rtp = is_set (codes "symmetric-rtp") found;

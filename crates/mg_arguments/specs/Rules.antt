@@ -1,5 +1,5 @@
 -- Rules about who must not be heard, and how they are written.
-use Rattle.std.specs.Prelude.{ℕ, Bool, nat_lt, List, length, Result, Err, if◌then◌else◌}
+use Rattle.std.specs.Prelude.{ℕ, Bool, nat_lt, List, length, ok_or, Result, Err, if◌then◌else◌}
 use Rattle.mg_heard.specs.Asked.{rule_by}
 use Rattle.mg_heard.specs.declared.asked_rule.AskedRule.{AskedRule}
 use Rattle.mg_arguments.specs.Read.{all_read}
@@ -9,4 +9,5 @@ use Rattle.mg_arguments.specs.declared.rule_fault.RuleFault.TheVariants.{Unreada
 -- The rules that these strings state. There are at most 64.
 abbrev pub rules_of : (has_names : Bool) → List (List ℕ) → Result (List AskedRule) RuleFault
 rules_of has_names texts =
-    if nat_lt 64 (length texts) then Err TooMany else all_read (rule_by has_names) Unreadable texts
+    if nat_lt 64 (length texts) then Err TooMany
+    else all_read (λ text. ok_or (rule_by has_names text) Unreadable) texts

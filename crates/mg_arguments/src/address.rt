@@ -81,7 +81,7 @@ pub fn own_address(text: &str) -> Result<[u8; 4], AddressFault>
     }
 }
 
-/// Parses the address to bind sockets to: an IPv4 address in dotted decimal, where 0.0.0.0 means all addresses of the
+/// Parses an address to bind sockets to: an IPv4 address in dotted decimal, where 0.0.0.0 means all addresses of the
 /// machine.
 pub fn bind_address(text: &str) -> Result<[u8; 4], BindAddressFault>
     ensures value { result ≡ bind_address text.now }

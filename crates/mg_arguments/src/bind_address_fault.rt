@@ -1,10 +1,12 @@
-/// The reason why a string can't be an address to bind sockets to.
+/// The reason why a list of strings is not a valid list of addresses to bind sockets to.
 #[derive(Clone, Copy, Debug, PartialEq, Eq)]
 pub enum BindAddressFault {
-    /// The string is not an IPv4 address in dotted decimal.
+    /// A string is not an IPv4 address in dotted decimal.
     Unreadable,
-    /// The address is 224.0.0.0 or above: a multicast, reserved or broadcast address.
+    /// An address is 224.0.0.0 or above: a multicast, reserved or broadcast address.
     Multicast,
+    /// There are more than eight strings.
+    TooMany,
 }
 
 impl BindAddressFault {
@@ -16,6 +18,9 @@ impl BindAddressFault {
             }
             BindAddressFault::Multicast => {
                 "invalid value for '--bind-address <ADDRESS>': not a unicast address"
+            }
+            BindAddressFault::TooMany => {
+                "invalid value for '--bind-address <ADDRESS>': more than 8 addresses"
             }
         }
     }

@@ -22,6 +22,7 @@
 mod address;
 mod audible_request;
 mod bind_address_fault;
+mod bind_addresses;
 mod config_fault;
 mod controller_fault;
 mod controllers;
@@ -46,6 +47,7 @@ mod zone_name;
 pub use crate::address::is_multicast;
 pub use crate::audible_request::AudibleRequest;
 pub use crate::bind_address_fault::BindAddressFault;
+pub use crate::bind_addresses::{BindAddresses, MAX_BIND_ADDRESSES};
 pub use crate::config_fault::ConfigFault;
 pub use crate::controller_fault::ControllerFault;
 pub use crate::controllers::Controllers;

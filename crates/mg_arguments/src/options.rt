@@ -1,19 +1,20 @@
-ghost use Rattle.std.specs.Prelude.{◌≡◌, ◌∷◌, [], Err, IfErr, IfOk, Ok, codes, fold, if◌then◌else◌, map, option_and_then};
+ghost use Rattle.std.specs.Prelude.{◌≡◌, ◌∷◌, [], Err, IfErr, IfOk, Ok, codes, fold, if◌then◌else◌, map, option_and_then, unwrap_or};
 ghost use Rattle.clap.specs.declared.error.kind.ErrorKind.TheVariants.{ValueValidation};
-ghost use Rattle.clap.specs.Walk.{first_of};
+ghost use Rattle.clap.specs.Walk.{all_of, first_of};
 ghost use Rattle.clap.specs.Words.{app_of, found_of, kind_of, rows_of, rule_of, with_rule};
 ghost use Rattle.mg_core.specs.Peer.{peer_of};
 ghost use Rattle.mg_options.specs.Requested.{IsRefused};
 ghost use Rattle.mg_options.specs.Line.{text_rule};
 ghost use Rattle.mg_options.specs.Numbers.{number_or};
-ghost use Rattle.mg_arguments.specs.Address.{bind_address};
+ghost use Rattle.mg_arguments.specs.Address.{bind_addresses_of};
 ghost use Rattle.mg_arguments.specs.FilePath.{file_path};
 ghost use Rattle.mg_arguments.specs.Options.{address_in, requested, command_line, config_at, controllers_in, repeated_rule};
 ghost use Rattle.mg_arguments.specs.Options.{check_in, check_line, draws_of, flag_rule, is_set, live_line, options, replay_line, run_of};
 ghost use Rattle.mg_arguments.specs.Options.{durability_in, fence_in, gateway_in, named_by, gateway_rule, given_in, is_given, run_in, service_in, sockets_line, subcommand_line};
 
-use crate::address::{AddressFault, bind_address, own_address};
+use crate::address::{AddressFault, own_address};
 use crate::bind_address_fault::BindAddressFault;
+use crate::bind_addresses::BindAddresses;
 use crate::controller_fault::ControllerFault;
 use crate::controllers::Controllers;
 use crate::draws::Draws;
@@ -93,15 +94,11 @@ fn with_options<'a>(alloc: Global, command: Command<'a>) -> Result<Command<'a>, 
     Ok(command)
 }
 
-/// Creates the option for a controller's IPv4 address, which can be given several times.
-fn controller_option<'a>(alloc: Global) -> Arg<'a>
-    ensures rule { rule_of result ≡ repeated_rule (codes "controller") }
+/// Creates an option that takes an IPv4 address and can be given several times. Its parser accepts any text.
+fn addresses_option<'a>(alloc: Global, name: &'a str) -> Arg<'a>
+    ensures rule { rule_of result ≡ repeated_rule name.now }
 {
-    Arg::new(alloc, "controller")
-        .long("controller")
-        .value_name("ADDRESS")
-        .action(ArgAction::Append)
-        .help("IPv4 address of a controller, repeatable up to 8 times [default: any address]")
+    address_option(alloc, name).action(ArgAction::Append)
 }
 
 /// Creates a flag: an option without a value, which is set if it is given.
@@ -125,10 +122,12 @@ fn on_sockets<'a>(alloc: Global, name: &'a str, about: &'a str) -> Result<Comman
     ensures memory { IfErr result (λ error. kind_of error ≡ ErrorKind.OutOfMemory) }
 {
     let command = subcommand(alloc, name, about)?
-        .arg(address_option(alloc, "bind-address").help(
-            "IPv4 address to bind all ports to [default: the values of --address and --control-address]",
+        .arg(addresses_option(alloc, "bind-address").help(
+            "IPv4 address to bind all ports to, repeatable up to 8 times: the others get only a control port [default: the values of --address and --control-address]",
         ))?
-        .arg(controller_option(alloc))?
+        .arg(addresses_option(alloc, "controller").help(
+            "IPv4 address of a controller, repeatable up to 8 times [default: any address]",
+        ))?
         .arg(short_number(alloc, "report").help(
             "Seconds between reports on standard error, 0–65535, 0 = never [default: 0]",
         ))?
@@ -323,16 +322,13 @@ fn controllers_of(matches: &ArgMatches<'_>) -> Result<Controllers, ControllerFau
     }
 }
 
-/// Returns the address to bind sockets to, or `None` if the command line names none.
-fn bind_address_of(matches: &ArgMatches<'_>) -> Result<Option<[u8; 4]>, BindAddressFault>
-    ensures value { result ≡ named_by bind_address (codes "bind-address") (rows_of (found_of matches.now)) }
+/// Returns the addresses to bind sockets to that the command line names.
+fn bind_addresses_of(matches: &ArgMatches<'_>) -> Result<BindAddresses, BindAddressFault>
+    ensures value { result ≡ bind_addresses_of (unwrap_or (all_of (codes "bind-address") (rows_of (found_of matches.now))) []) }
 {
-    match matches.get_str("bind-address") {
-        Some(text) => match bind_address(text) {
-            Ok(address) => Ok(Some(address)),
-            Err(fault) => Err(fault),
-        },
-        None => Ok(None),
+    match matches.get_strs("bind-address") {
+        Some(texts) => BindAddresses::of(texts),
+        None => BindAddresses::of(&[]),
     }
 }
 
@@ -428,8 +424,8 @@ fn service_of(matches: &ArgMatches<'_>) -> Result<Service, &'static str>
         Ok(controllers) => controllers,
         Err(fault) => return Err(fault.message()),
     };
-    let bind_address = match bind_address_of(matches) {
-        Ok(address) => address,
+    let bind_addresses = match bind_addresses_of(matches) {
+        Ok(addresses) => addresses,
         Err(fault) => return Err(fault.message()),
     };
     let metrics = match file_of("metrics", matches) {
@@ -444,7 +440,7 @@ fn service_of(matches: &ArgMatches<'_>) -> Result<Service, &'static str>
     let fence = fence_of(&controllers, matches)?;
     Ok(Service {
         controllers,
-        bind_address,
+        bind_addresses,
         report: report_of(matches),
         records: is_set("record", matches),
         symmetric_rtp: is_set("symmetric-rtp", matches),

@@ -2,6 +2,7 @@ ghost use Rattle.std.specs.Prelude.{◌≡◌, Some, None, if◌then◌else◌};
 ghost use Rattle.std.specs.Option.{option_map};
 ghost use Rattle.mg_arguments.specs.Setup.{setup_of};
 
+use crate::bind_addresses::BindAddresses;
 use crate::controllers::Controllers;
 use crate::file_path::FilePath;
 use crate::given::Given;
@@ -15,9 +16,8 @@ use mg_serve::Setup;
 pub struct Service {
     /// The controllers that may send messages to the gateway.
     pub controllers: Controllers,
-    /// The address that all ports are bound to, or `None` to bind them to the addresses that callers and controllers
-    /// send to.
-    pub bind_address: Option<[u8; 4]>,
+    /// The addresses that the ports are bound to.
+    pub bind_addresses: BindAddresses,
     /// The seconds between reports; 0 disables reports.
     pub report: u16,
     /// Whether the output is a recording.

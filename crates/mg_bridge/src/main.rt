@@ -8,6 +8,9 @@
 //! `tick` advances by 20 ms and sends the packets, `stats` prints the counts, and `quit` ends the run. Another program,
 //! `mg_pace`, writes `poll` and `tick` when the clock says that they are due.
 //!
+//! `mg_bridge heard` reports who could hear whom, according to a journal or a recording. `check` asks whether a gateway
+//! answers. `seal` and `verify` add and check seals.
+//!
 //! With `--record`, `live` and `serve` print a recording: a script of all events. While they run, they don't wait for
 //! the readers of standard output and standard error. All other subcommands wait for these readers.
 #![tactic(auto)]

@@ -193,6 +193,11 @@ impl Sockets for FakeHost {
         Ok(())
     }
 
+    fn bind_also(&mut self, address: [u8; 4], port: u16) -> io::Result<()> {
+        self.log.add(Some(HostCall::BindAlso(address, port, true)));
+        Ok(())
+    }
+
     fn poll(&mut self, marks: &mut [bool]) -> io::Result<()> {
         report(self.waiting.as_slice(), &mut self.log, marks);
         self.log.add(Some(HostCall::Poll(true)));

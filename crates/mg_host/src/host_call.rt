@@ -12,6 +12,8 @@ pub enum HostCall {
     ReadDate(Option<u64>),
     /// An attempt to bind a socket to an address and a port; the flag is false if the attempt failed.
     Bind([u8; 4], u16, bool),
+    /// An attempt to bind a further control socket to an address and a port; the flag is false if the attempt failed.
+    BindAlso([u8; 4], u16, bool),
     /// A datagram has arrived at this socket, according to the next poll.
     Reported(usize),
     /// A question to the host at which sockets a datagram had arrived; the flag is false if the question failed.

@@ -1,7 +1,7 @@
 ghost use Rattle.std.specs.Prelude.{◌≤◌, [], ◌∷◌, length, is_ok, IfOk, IfSome};
 ghost use Rattle.mg_ports.specs.declared.call.Call.TheVariants.{Receive, Send, BeginTick};
 ghost use Rattle.mg_ports.specs.Calls.{receipt_of};
-ghost use Rattle.mg_host.specs.declared.host_call.HostCall.TheVariants.{Bind, OnPorts, NotReported, NotSent};
+ghost use Rattle.mg_host.specs.declared.host_call.HostCall.TheVariants.{Bind, BindAlso, OnPorts, NotReported, NotSent};
 ghost use Rattle.mg_host.specs.HostCalls.{Grows, Polls};
 
 use crate::tells::Tells;
@@ -10,7 +10,7 @@ use mg_ports::{Peer, PortFault, Timing};
 use std::io;
 
 /// A gateway's numbered UDP sockets. Each bind adds the next socket. Socket 0 is the control socket, and socket s + 1
-/// is the media socket of slot s in the pool. No call blocks.
+/// is the media socket of slot s in the pool. Socket 0 can consist of several control sockets. No call blocks.
 ///
 /// If a session makes a decision without asking the host, a separate call logs the decision, so that the log has
 /// everything in order. A host without a log ignores these calls.
@@ -18,6 +18,11 @@ pub trait Sockets: Tells {
     /// Binds the next socket.
     fn bind(&mut self, address: [u8; 4], port: u16) -> io::Result<()>
         ensures logged { Grows (Self.calls self.old) (Self.calls self.new) (Bind address port (is_ok result) ∷ []) };
+
+    /// Adds a control socket. From then on, socket 0 also receives the datagrams that arrive there. A datagram that is
+    /// sent from socket 0 leaves from the control socket that received the last datagram.
+    fn bind_also(&mut self, address: [u8; 4], port: u16) -> io::Result<()>
+        ensures logged { Grows (Self.calls self.old) (Self.calls self.new) (BindAlso address port (is_ok result) ∷ []) };
 
     /// Asks at which sockets a datagram has arrived since the last call, and marks these sockets. The other marks are
     /// unchanged.

@@ -1,6 +1,6 @@
 -- The calls of a session on its ports, in the log of its host.
-use Rattle.std.proofs.Common.{◌≡◌, ◌⊎◌, inl, inr, ℕ, ◌+◌, true, List, [], ◌∷◌, ◌++◌, map, Option, Some, None, refl, sym, ap, subst, ◌∙◌, append_assoc, arith}
-use Rattle.std.specs.Prelude.{unwrap_or}
+use Rattle.std.proofs.Common.{◌≡◌, ◌⊎◌, inl, inr, ℕ, ◌+◌, true, List, [], ◌∷◌, ◌++◌, drop, map, Option, Some, None, Result, Ok, Err, refl, sym, ap, subst, ◌∙◌, append_assoc, arith}
+use Rattle.std.specs.Prelude.{MatchResult, slice_get, unwrap_or}
 use Rattle.std.specs.List.{range_with_len}
 use Rattle.std.proofs.lemmas.List.FromFn.{map-range_with_len_more}
 use Rattle.mg_engine.specs.Config.{limits_of}
@@ -10,11 +10,12 @@ use Rattle.mg_options.specs.declared.status.Status.{Status}
 use Rattle.mg_options.specs.declared.status.Status.TheVariants.{Failed, NoMemory}
 use Rattle.mg_start.specs.Journal.{IsQuiet, RunsNoSession}
 use Rattle.mg_start.specs.Start.{Begins, FailsToStart}
-use Rattle.mg_start.proofs.LogLemmas.{grows_none, quiet_then, writes_quiet}
-use Rattle.mg_program.specs.aids.Binding.{first_binds}
+use Rattle.mg_start.proofs.LogLemmas.{grows_none, quiet_both, quiet_then, writes_quiet}
+use Rattle.mg_program.specs.Serve.{binds_of}
+use Rattle.mg_program.specs.aids.Binding.{first_binds, other_binds}
 use Rattle.mg_ports.specs.declared.call.Call.{Call}
 use Rattle.mg_host.specs.declared.host_call.HostCall.{HostCall}
-use Rattle.mg_host.specs.declared.host_call.HostCall.TheVariants.{OpenJournal, OpenText, ReadDate, Bind, OnPorts}
+use Rattle.mg_host.specs.declared.host_call.HostCall.TheVariants.{OpenJournal, OpenText, ReadDate, Bind, BindAlso, OnPorts}
 use Rattle.mg_host.specs.declared.host_call.HostCall.TheVariants.{Reported, Poll, NotReported, NotSent}
 use Rattle.mg_ports.specs.declared.call.Call.TheVariants.{Receive, Send}
 use Rattle.mg_ports.specs.declared.receipt.Receipt.TheVariants.{Nothing}
@@ -26,6 +27,7 @@ ports_both (OpenJournal path bytes ∷ p) q = ports_both p q
 ports_both (OpenText path text ∷ p) q = ports_both p q
 ports_both (ReadDate millis ∷ p) q = ports_both p q
 ports_both (Bind address port bound ∷ p) q = ports_both p q
+ports_both (BindAlso address port bound ∷ p) q = ports_both p q
 ports_both (Reported socket ∷ p) q = ports_both p q
 ports_both (Poll polled ∷ p) q = ports_both p q
 ports_both (OnPorts call ∷ p) q = ap (λ (l : List Call). call ∷ l) (ports_both p q)
@@ -51,9 +53,19 @@ slots_quiet : (address : List ℕ) (port : ℕ → ℕ) (slots : List ℕ) → I
 slots_quiet address port [] = tt
 slots_quiet address port (slot ∷ slots) = slots_quiet address port slots
 
-pub binds_quiet : (config : Config) (address : Option (List ℕ)) (count : ℕ) → IsQuiet (first_binds config address count)
-binds_quiet config address count =
+pub first_quiet : (config : Config) (address : Option (List ℕ)) (count : ℕ) → IsQuiet (first_binds config address count)
+first_quiet config address count =
     slots_quiet (unwrap_or address config.address) (λ slot. slot_port (limits_of config) slot) (range_with_len 0 count)
+
+pub others_quiet : (port : ℕ) (addresses : List (List ℕ)) → IsQuiet (other_binds port addresses)
+others_quiet port [] = tt
+others_quiet port (address ∷ addresses) = others_quiet port addresses
+
+pub binds_quiet : (config : Config) (addresses : List (List ℕ)) → IsQuiet (binds_of config addresses)
+binds_quiet config addresses =
+    quiet_both (first_binds config (slice_get addresses 0) config.slots)
+    (other_binds config.control_port (drop 1 addresses)) (first_quiet config (slice_get addresses 0) config.slots)
+    (others_quiet config.control_port (drop 1 addresses))
 
 pub no_session : (a b : Option (List HostCall)) (p : List HostCall) → Grows a b p → IsQuiet p → RunsNoSession a b
 no_session a b p grows quiet = (p, grows, quiet)
@@ -71,12 +83,12 @@ begun_quiet (Some path) text config missed fence a b (millis, calls, lines, grow
     (ReadDate millis ∷ calls, grows, writes_quiet calls lines writes)
 
 -- If a gateway binds its sockets and begins its journal but doesn't start, it runs no session.
-pub not_started : (journal text address : Option (List ℕ)) (config : Config) (missed : ℕ) (fence : Option ℕ)
-    (count : ℕ) (a b c d : Option (List HostCall)) → Grows a b (first_binds config address count)
+pub not_started : (journal text : Option (List ℕ)) (addresses : List (List ℕ)) (config : Config) (missed : ℕ)
+    (fence : Option ℕ) (a b c d : Option (List HostCall)) → Grows a b (binds_of config addresses)
     → Begins journal text config missed fence b c → d ≡ c → RunsNoSession a d
-not_started journal text address config missed fence count a b c d bound begins same =
+not_started journal text addresses config missed fence a b c d bound begins same =
     subst (λ (x : Option (List HostCall)). RunsNoSession a x) (sym same)
-    (quiet_then a b c (first_binds config address count, bound, binds_quiet config address count)
+    (quiet_then a b c (binds_of config addresses, bound, binds_quiet config addresses)
     (begun_quiet journal text config missed fence b c begins))
 
 -- Binding one more socket extends the sockets that were bound first.
@@ -91,3 +103,17 @@ binds_more config address count port a b c before is bound =
     (ap (λ (l : List HostCall). Bind (unwrap_or address config.control_address) config.control_port true ∷ l) (sym more))
     (grows_both a b c (first_binds config address count) (socket count ∷ []) before
     (subst (λ (p : ℕ). Grows b c (Bind (unwrap_or address config.address) p true ∷ [])) is bound))
+
+-- If the first sockets were bound, and then the further control sockets were bound or not, all were bound or no session
+-- runs.
+pub all_bound : {E : Type 0} (config : Config) (first : Option (List ℕ)) (addresses : List (List ℕ))
+    (a b c : Option (List HostCall)) (result : Result (Unit {0}) E) → first ≡ slice_get addresses 0
+    → Grows a b (first_binds config first config.slots)
+    → MatchResult result (λ done. Grows b c (other_binds config.control_port (drop 1 addresses))) (λ fault. RunsNoSession b c)
+    → MatchResult result (λ done. Grows a c (binds_of config addresses)) (λ fault. RunsNoSession a c)
+all_bound config first addresses a b c (Ok done) is before then =
+    subst (λ (f : Option (List ℕ)). Grows a c (first_binds config f config.slots
+    ++ other_binds config.control_port (drop 1 addresses))) is
+    (grows_both a b c (first_binds config first config.slots) (other_binds config.control_port (drop 1 addresses)) before then)
+all_bound config first addresses a b c (Err fault) is before then =
+    no_session_then a b c (first_binds config first config.slots) before (first_quiet config first config.slots) then

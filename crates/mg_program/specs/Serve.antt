@@ -1,6 +1,6 @@
 -- The effect of running a gateway on UDP ports.
-use Rattle.std.specs.Prelude.{◌≡◌, ◌≢◌, ◌⊎◌, ℕ, ⊤, true, List, [], ◌∷◌, map, Option, Result}
-use Rattle.std.specs.Prelude.{Err, unwrap_or}
+use Rattle.std.specs.Prelude.{◌≡◌, ◌≢◌, ◌⊎◌, ℕ, ⊤, true, List, [], ◌∷◌, ◌++◌, drop, map, slice_get}
+use Rattle.std.specs.Prelude.{Option, Result, Err, unwrap_or}
 use Rattle.std.specs.List.{range_with_len}
 use Rattle.mg_clock.specs.Ticks.{ClockSeen}
 use Rattle.mg_engine.specs.Limits.{slot_port}
@@ -16,7 +16,7 @@ use Rattle.mg_serve.specs.declared.command.Command.{Command}
 use Rattle.mg_serve.specs.declared.form.Form.{Form}
 use Rattle.mg_serve.specs.Serve.{ClockCommands, ReadCommands, Served, form_of}
 use Rattle.mg_host.specs.declared.host_call.HostCall.{HostCall}
-use Rattle.mg_host.specs.declared.host_call.HostCall.TheVariants.{Bind}
+use Rattle.mg_host.specs.declared.host_call.HostCall.TheVariants.{Bind, BindAlso}
 use Rattle.mg_host.specs.HostCalls.{Grows, IsLogged, port_calls}
 use Rattle.mg_arguments.specs.declared.draws.Draws.{Draws}
 use Rattle.mg_arguments.specs.declared.service.Service.{Service}
@@ -28,13 +28,16 @@ use Rattle.mg_options.specs.declared.status.Status.{Status}
 use Rattle.mg_program.specs.Decisions.{HasDecided, Knows}
 use Rattle.mg_program.specs.Status.{status_of}
 
--- The sockets of a gateway, in the order in which they are bound: the control socket, and then the media sockets. If
--- `address` is given, all sockets are bound to it, and otherwise to the addresses of the configuration.
-abbrev pub binds_of : Config → (address : Option (List ℕ)) → List HostCall
-binds_of config address =
-    Bind (unwrap_or address config.control_address) config.control_port true
-    ∷ map (λ slot. Bind (unwrap_or address config.address) (slot_port (limits_of config) slot) true)
+-- The sockets of a gateway, in the order in which they are bound: the control socket, the media sockets, and a further
+-- control socket for each address but the first. The others are bound to the first address, if there is one, and
+-- otherwise to the addresses of the configuration.
+abbrev pub binds_of : Config → (addresses : List (List ℕ)) → List HostCall
+binds_of config addresses =
+    let first = slice_get addresses 0 in
+    Bind (unwrap_or first config.control_address) config.control_port true
+    ∷ (map (λ slot. Bind (unwrap_or first config.address) (slot_port (limits_of config) slot) true)
     (range_with_len 0 config.slots)
+    ++ map (λ address. BindAlso address config.control_port true) (drop 1 addresses))
 
 -- The source of a gateway's commands: the lines of an input, or a clock, with its readings and waits in the run.
 pub data Drive : Type 0 where
@@ -79,7 +82,7 @@ abbrev pub ServesChosen : Drive → (unchanged : Type 0) → Config → Service
     → Type 0
 ServesChosen drive unchanged config service held written text found last status =
     ((outcome : Result Counts RunFault) × (bound : Option (List HostCall))
-    × (status ≡ status_of outcome) × Grows found bound (binds_of config service.bind_address)
+    × (status ≡ status_of outcome) × Grows found bound (binds_of config service.bind_addresses)
     × ServesOnPorts drive config service held written text bound last outcome)
     ⊎ (FailsToStart config status × RunsNoSession found last × unchanged)
 

@@ -14,6 +14,15 @@ const TEXT_ROOM: usize = 6000;
 /// An announcement that is built before it is printed.
 type Text = ArrayVec<u8, TEXT_ROOM>;
 
+/// Writes a line with a name and addresses.
+fn write_addresses(name: &str, addresses: &[[u8; 4]], text: &mut Text) {
+    let _ = write!(text, "{name}");
+    for address in addresses {
+        let _ = write!(text, " {}", Ipv4Addr::from(*address));
+    }
+    let _ = writeln!(text);
+}
+
 /// Writes the addresses and ports that a gateway uses.
 fn write_ports(config: &Config, service: &Service, text: &mut Text) {
     let control = Ipv4Addr::from(config.control_address);
@@ -22,8 +31,8 @@ fn write_ports(config: &Config, service: &Service, text: &mut Text) {
     let last = (u32::from(first) + 2 * u32::from(config.slots)).saturating_sub(2);
     let _ = writeln!(text, "control: {control}:{port}");
     let _ = writeln!(text, "media: {media}, ports {first} to {last}");
-    if let Some(address) = service.bind_address {
-        let _ = writeln!(text, "bound to: {}", Ipv4Addr::from(address));
+    if !service.bind_addresses.as_slice().is_empty() {
+        write_addresses("bound to:", service.bind_addresses.as_slice(), text);
     }
 }
 
@@ -37,11 +46,7 @@ fn write_controllers(service: &Service, text: &mut Text) {
         );
         return;
     }
-    let _ = write!(text, "controllers:");
-    for address in controllers {
-        let _ = write!(text, " {}", Ipv4Addr::from(*address));
-    }
-    let _ = writeln!(text);
+    write_addresses("controllers:", controllers, text);
 }
 
 /// Writes the journal that a gateway keeps.

@@ -1,14 +1,14 @@
-ghost use Rattle.std.specs.Prelude.{◌≡◌, [], ◌∷◌, IfErr, MatchResult, OnOk, true, unwrap_or};
+ghost use Rattle.std.specs.Prelude.{◌≡◌, [], ◌∷◌, IfErr, MatchResult, OnOk, drop, true};
 ghost use Rattle.mg_engine.specs.Config.{IsValidConfig};
-ghost use Rattle.mg_host.specs.declared.host_call.HostCall.TheVariants.{Bind};
+ghost use Rattle.mg_host.specs.declared.host_call.HostCall.TheVariants.{Bind, BindAlso};
 ghost use Rattle.mg_host.specs.HostCalls.{Grows};
 ghost use Rattle.mg_start.specs.Journal.{RunsNoSession};
 ghost use Rattle.mg_start.specs.Start.{FailsToStart};
 ghost use Rattle.mg_program.specs.Serve.{binds_of};
-ghost use Rattle.mg_program.specs.aids.Binding.{IsPortOf};
+ghost use Rattle.mg_program.specs.aids.Binding.{IsPortOf, first_binds, other_binds};
 
 use crate::bind_fault::BindFault;
-use mg_arguments::ConfigFault;
+use mg_arguments::{BindAddresses, ConfigFault};
 use mg_core::{Config, RunFault};
 use mg_host::Sockets;
 use mg_options::Status;
@@ -32,17 +32,34 @@ fn bind_socket<H: Sockets>(host: &mut H, address: [u8; 4], port: u16) -> Result<
     }
 }
 
-/// Binds the ports of a gateway: the control port, and then the media ports in ascending order. If `bind_address` is
-/// given, all ports are bound to it, and otherwise to the addresses in the configuration. The error names the first
-/// port that can't be bound.
-fn bind_all<H: Sockets>(
+/// Binds a further control socket.
+fn bind_control<H: Sockets>(host: &mut H, address: [u8; 4], port: u16) -> Result<(), BindFault>
+    ensures bound { MatchResult result
+        (λ _. Grows (H.calls host.old) (H.calls host.new) (BindAlso address port true ∷ []))
+        (λ fault. RunsNoSession (H.calls host.old) (H.calls host.new)) }
+    ensures port { IfErr result (λ fault. fault.port ≡ port) }
+{
+    match host.bind_also(address, port) {
+        Ok(()) => Ok(()),
+        Err(error) => Err(BindFault {
+            address: Ipv4Addr::from(address),
+            port,
+            error,
+        }),
+    }
+}
+
+/// Binds the control port of a gateway, and then the media ports in ascending order. They are bound to `bind_address`,
+/// if it is given, and otherwise to the addresses in the configuration. The error names the first port that can't be
+/// bound.
+fn bind_first<H: Sockets>(
     host: &mut H,
     config: &Config,
     bind_address: Option<[u8; 4]>,
 ) -> Result<(), BindFault>
     requires sound { IsValidConfig config.now }
     ensures bound { MatchResult result
-        (λ _. Grows (H.calls host.old) (H.calls host.new) (binds_of config.now bind_address))
+        (λ _. Grows (H.calls host.old) (H.calls host.new) (first_binds config.now bind_address config.now.slots))
         (λ fault. RunsNoSession (H.calls host.old) (H.calls host.new)) }
     ensures port { IfErr result (λ fault. IsPortOf config.now fault.port) }
 {
@@ -60,17 +77,62 @@ fn bind_all<H: Sockets>(
     Ok(())
 }
 
+/// Binds a further control socket on each of these addresses. The error names the first address that can't be bound.
+fn bind_others<H: Sockets>(host: &mut H, addresses: &[[u8; 4]], port: u16) -> Result<(), BindFault>
+    ensures bound { MatchResult result
+        (λ _. Grows (H.calls host.old) (H.calls host.new) (other_binds port addresses.now))
+        (λ fault. RunsNoSession (H.calls host.old) (H.calls host.new)) }
+    ensures port { IfErr result (λ fault. fault.port ≡ port) }
+{
+    for address in addresses {
+        if let Err(fault) = bind_control(host, *address, port) {
+            return Err(fault);
+        }
+    }
+    Ok(())
+}
+
+/// Returns all addresses but the first.
+fn others(addresses: &[[u8; 4]]) -> &[[u8; 4]]
+    ensures value { result.now ≡ drop 1 addresses.now }
+{
+    match addresses.split_first() {
+        Some((_, others)) => others,
+        None => addresses,
+    }
+}
+
+/// Binds the ports of a gateway to the first of these addresses, and further control sockets to the others. If there is
+/// no address, the ports are bound to the addresses in the configuration. The error names the first port that can't be
+/// bound.
+fn bind_all<H: Sockets>(
+    host: &mut H,
+    config: &Config,
+    addresses: &[[u8; 4]],
+) -> Result<(), BindFault>
+    requires sound { IsValidConfig config.now }
+    ensures bound { MatchResult result
+        (λ _. Grows (H.calls host.old) (H.calls host.new) (binds_of config.now addresses.now))
+        (λ fault. RunsNoSession (H.calls host.old) (H.calls host.new)) }
+    ensures port { IfErr result (λ fault. IsPortOf config.now fault.port) }
+{
+    if let Err(fault) = bind_first(host, config, addresses.first().copied()) {
+        return Err(fault);
+    }
+    bind_others(host, others(addresses), config.control_port)
+}
+
 /// Binds the ports of a gateway. If that fails, reports the fault to `errors` and returns the program's exit status.
 ///
 /// An invalid configuration is reported before a port is bound.
 pub fn bind<H: Sockets, E: Write>(
     host: &mut H,
     config: &Config,
-    bind_address: Option<[u8; 4]>,
+    addresses: &BindAddresses,
     errors: &mut E,
 ) -> Result<(), Status>
     ensures bound { MatchResult result
-        (λ _. Grows (H.calls host.old) (H.calls host.new) (binds_of config.now bind_address))
+        (λ _. Grows (H.calls host.old) (H.calls host.new) (binds_of config.now addresses.now))
         (λ status. RunsNoSession (H.calls host.old) (H.calls host.new)) }
     ensures sound { OnOk result (IsValidConfig config.now) }
     ensures ends { IfErr result (FailsToStart config.now) }
@@ -80,7 +142,7 @@ pub fn bind<H: Sockets, E: Write>(
         let _ = writeln!(errors, "{}: {fault}", RunFault::BadConfig);
         return Err(Status::Usage);
     }
-    match bind_all(host, config, bind_address) {
+    match bind_all(host, config, addresses.as_slice()) {
         Ok(()) => Ok(()),
         Err(fault) if fault.error.kind() == ErrorKind::OutOfMemory => {
             let _ = writeln!(errors, "{}", RunFault::NoMemory);

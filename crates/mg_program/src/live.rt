@@ -223,7 +223,7 @@ fn live_ready<
         CanStart service.now.journal text service.now.fence_from ready.entry.config ready.entry.core.state
         ready.entry.reached
         (option_map_or (λ j. j) ready.entry.journal no_journal) bound (H.calls host) →
-        Grows found bound (binds_of ready.entry.config service.now.bind_address) →
+        Grows found bound (binds_of ready.entry.config service.now.bind_addresses) →
         ServesChosen (ByClock late (H.stopped result.host)) (output.new ≡ output.old) ready.entry.config
         service.now (W.contents output.old) (W.contents output.new) text found (H.calls result.host) result.status }
 {

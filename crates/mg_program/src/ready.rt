@@ -93,7 +93,7 @@ pub fn make_ready<
     ensures config { IfOk result (λ r. r.config ≡ prepared.config) }
     ensures sound { IfOk result (λ r. IsValidConfig r.config) }
     ensures start { IfOk result (λ r. (bound : Option (List HostCall)) ×
-        Grows (H.calls host.old) bound (binds_of prepared.config service.now.bind_address) ×
+        Grows (H.calls host.old) bound (binds_of prepared.config service.now.bind_addresses) ×
         CanStart service.now.journal (option_map_or (λ j. text_in j.opening.file) prepared.journal (Some []))
         service.now.fence_from r.config r.core.state r.reached (option_map_or (λ j. j) r.journal no_journal) bound (H.calls host.new)) }
     ensures quiet { OnOk result (errors.new ≡ errors.old) }
@@ -102,7 +102,7 @@ pub fn make_ready<
     let config = prepared.config;
     let mut core = prepared.core;
     let reached = prepared.reached;
-    if let Err(status) = bind(host, &config, service.bind_address, errors) {
+    if let Err(status) = bind(host, &config, &service.bind_addresses, errors) {
         return Err(status);
     }
     if let Err(status) = check_metrics(system.files, service, errors) {

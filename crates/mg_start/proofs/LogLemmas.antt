@@ -4,7 +4,7 @@ use Rattle.mg_ports.specs.declared.call.Call.TheVariants.{Append, BeginTick, Rec
 use Rattle.mg_journal.specs.declared.append_fault.AppendFault.{AppendFault}
 use Rattle.mg_journal.specs.declared.durability.Durability.{Durability}
 use Rattle.mg_host.specs.declared.host_call.HostCall.{HostCall}
-use Rattle.mg_host.specs.declared.host_call.HostCall.TheVariants.{Bind, NotReported, NotSent, OnPorts, OpenJournal, OpenText, Poll, ReadDate, Reported}
+use Rattle.mg_host.specs.declared.host_call.HostCall.TheVariants.{Bind, BindAlso, NotReported, NotSent, OnPorts, OpenJournal, OpenText, Poll, ReadDate, Reported}
 use Rattle.mg_host.specs.HostCalls.{Grows}
 use Rattle.mg_start.specs.Journal.{IsQuiet, RunsNoSession, Writes}
 use Rattle.mg_start.specs.aids.Starting.{HasWritten, Logs}
@@ -31,6 +31,7 @@ writes_both (OpenJournal path bytes ∷ p) q a b h k = absurd h
 writes_both (OpenText path text ∷ p) q a b h k = absurd h
 writes_both (ReadDate millis ∷ p) q a b h k = absurd h
 writes_both (Bind address port bound ∷ p) q a b h k = absurd h
+writes_both (BindAlso address port bound ∷ p) q a b h k = absurd h
 writes_both (Reported socket ∷ p) q a b h k = absurd h
 writes_both (Poll polled ∷ p) q a b h k = absurd h
 writes_both (NotReported socket ∷ p) q a b h k = absurd h
@@ -48,6 +49,7 @@ writes_quiet (OpenJournal path bytes ∷ p) lines h = absurd h
 writes_quiet (OpenText path text ∷ p) lines h = absurd h
 writes_quiet (ReadDate millis ∷ p) lines h = absurd h
 writes_quiet (Bind address port bound ∷ p) lines h = absurd h
+writes_quiet (BindAlso address port bound ∷ p) lines h = absurd h
 writes_quiet (Reported socket ∷ p) lines h = absurd h
 writes_quiet (Poll polled ∷ p) lines h = absurd h
 writes_quiet (NotReported socket ∷ p) lines h = absurd h
@@ -56,6 +58,7 @@ writes_quiet (NotSent socket to bytes cause ∷ p) lines h = absurd h
 pub quiet_both : (p q : List HostCall) → IsQuiet p → IsQuiet q → IsQuiet (p ++ q)
 quiet_both [] q h k = k
 quiet_both (Bind address port bound ∷ p) q h k = quiet_both p q h k
+quiet_both (BindAlso address port bound ∷ p) q h k = quiet_both p q h k
 quiet_both (ReadDate millis ∷ p) q h k = quiet_both p q h k
 quiet_both (OnPorts (Append part durability result) ∷ p) q h k = quiet_both p q h k
 quiet_both (OnPorts (Receive socket receipt) ∷ p) q h k = absurd h

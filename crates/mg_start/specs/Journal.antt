@@ -13,7 +13,7 @@ use Rattle.mg_dates.specs.declared.timeline.Timeline.{Timeline}
 use Rattle.mg_dates.specs.Times.{missed_since, timeline_of}
 use Rattle.mg_ports.specs.declared.call.Call.TheVariants.{Append}
 use Rattle.mg_host.specs.declared.host_call.HostCall.{HostCall}
-use Rattle.mg_host.specs.declared.host_call.HostCall.TheVariants.{Bind, OnPorts, ReadDate}
+use Rattle.mg_host.specs.declared.host_call.HostCall.TheVariants.{Bind, BindAlso, OnPorts, ReadDate}
 use Rattle.mg_host.specs.HostCalls.{Grows}
 use Rattle.mg_serve.specs.JournalLaws.{IsScriptOf}
 
@@ -52,6 +52,7 @@ missed_after text (Some millis) = missed_since (timeline_after text) (record { m
 abbrev pub IsQuiet : List HostCall → Type 0
 IsQuiet [] = Unit {0}
 IsQuiet (Bind address port bound ∷ calls) = IsQuiet calls
+IsQuiet (BindAlso address port bound ∷ calls) = IsQuiet calls
 IsQuiet (ReadDate millis ∷ calls) = IsQuiet calls
 IsQuiet (OnPorts (Append lines durability result) ∷ calls) = IsQuiet calls
 IsQuiet (call ∷ calls) = ⊥

@@ -586,7 +586,7 @@ response(Response = #sip{status = Status, method = Method}, Call = #call{request
         {true, <<"INVITE">>, offering} when Status < 200 -> with([{{timeout, repeat}, infinity, none}], Call);
         {true, <<"INVITE">>, offering} when Status < 300 -> accepted(Response, Call);
         {true, <<"INVITE">>, offering} -> refused(Status, Response, Call);
-        %% Our ACK was lost, or the response belongs to an INVITE from before a take-over.
+        %% Our ACK was lost, or the response belongs to an INVITE from before a takeover.
         {_, <<"INVITE">>, _} when Status >= 200, Status < 300 -> ok = acknowledge(Response, Call), Call;
         {true, <<"BYE">>, ending} when Status >= 200 -> stop(Call);
         {_, _, _} -> Call

@@ -31,7 +31,7 @@
 %% digits.
 -define(MAX_AUDITED, 29).
 
-%% Error codes for a context or termination that doesn't exist.
+%% Error codes which mean that a context doesn't exist, or that a termination isn't in it.
 -define(IS_GONE(Code), (Code =:= 411 orelse Code =:= 430 orelse Code =:= 431 orelse Code =:= 435)).
 
 -type id() :: lobby_rules:id().

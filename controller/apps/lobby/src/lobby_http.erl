@@ -158,7 +158,7 @@ answer(Method, Path, Mod = #mod{request_uri = Uri, parsed_header = Headers}) ->
         end
     end.
 
-%% Answers a request with a link (WHIP, RFC 9725).
+%% Answers a request that was made with a link (WHIP, RFC 9725).
 web("GET", [], #{room := Room, name := Name}, _) ->
     {ok, #{room => Room, name => Name, ice_servers => application:get_env(lobby, ice_servers, [])}};
 web("POST", [], Link, Mod = #mod{parsed_header = Headers, entity_body = Offer}) ->

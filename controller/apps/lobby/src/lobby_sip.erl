@@ -90,7 +90,7 @@ init(Config = #{sip := Own, digest := Algorithms, tls := Tls}) ->
 open({Address, Port}) ->
     gen_udp:open(Port, [binary, {ip, Address}, {active, 100}, {recbuf, 4194304}, {buffer, 65536}]).
 
-%% @doc Returns the secret for tags. It is stored, so that tags stay the same after a restart or a take-over.
+%% @doc Returns the secret for tags. It is stored, so that tags stay the same after a restart or a takeover.
 -spec secret() -> binary().
 secret() ->
     case lobby_store:get(lobby_settings, secret) of

@@ -8,7 +8,7 @@
 -type address() :: {inet:ip4_address(), inet:port_number()}.
 %% Files in PEM. If they change, new connections use the new certificate within two minutes (ssl's cache).
 -type tls() :: #{certificate := file:filename(), key := file:filename(), _ => _}.
-%% The timeout for TLS's handshake, in milliseconds.
+%% The timeout for the TLS handshake, in milliseconds.
 -define(HANDSHAKE, 5000).
 
 %% @doc Opens a port. Retries for a second, because the socket of a killed process takes a moment to close.
@@ -22,7 +22,7 @@ opened(Open, Tries) ->
         Opened -> Opened
     end.
 
-%% @doc Performs TLS's handshake, if any, on an accepted connection, which this process must own. Returns its socket.
+%% @doc Performs the TLS handshake, if any, on an accepted connection, which this process must own. Returns its socket.
 -spec secured(gen_tcp:socket(), tls() | none) -> {ok, socket()} | {error, term()}.
 secured(Socket, none) -> {ok, Socket};
 secured(Socket, Tls) -> ssl:handshake(Socket, options(Tls), ?HANDSHAKE).

@@ -174,7 +174,7 @@ one_that_never_served_is_sent_requests_test() ->
     ?assertMatch([_], sent("O-A=$", Sent)).
 
 %% A request that creates a context is stored before it is sent. Otherwise, the other node of a pair couldn't find the
-%% context after a take-over.
+%% context after a takeover.
 what_makes_a_context_is_kept_before_it_is_sent_test() ->
     {G, _} = happens([{{start, []}, 0}, {{timer, probe, {{127, 0, 0, 1}, 9}}, 0},
                       {{received, {reply, 2, {ok, [#{context => 1, results => [{add, 1, #{}}]}]}}}, 1}, {{timer, clean, 0}, 2}],

@@ -41,7 +41,7 @@ begun(Case, Config) ->
     G = gateway:start(case Is("without_a_fence") of true -> []; false -> ["--fence", "--controller", "127.0.0.1"] end),
     Relay = relay:start(gateway:address(G), #{lose => 0.0, double => 0.0, delay => 1}),
     As = gateway:config(<<"1">>, G),
-    %% No room's audit corrects a request that is run late.
+    %% In these cases, rooms audit so rarely that no audit corrects a request that is run late.
     Env = case Is("has_sent") of
         true -> [{gateways, [As#{address := relay:address(Relay), quiet => 500}]}, {room_audit, 600000}];
         false -> [{gateways, [As]}]
@@ -169,7 +169,7 @@ flows(Peer, Config) ->
     #{context := Context} = room(Peer),
     length(gateway:topology(Context, get(gateway, Config))).
 
-%% Checks that a phone gets a re-INVITE with the same address after a take-over, and answers it.
+%% Checks that a phone gets a re-INVITE with the same address after a takeover, and answers it.
 asked(Phone, Response) ->
     Invite = phone:recv(Phone, 30000),
     ?assertEqual({"INVITE", media_line(Response)}, {phone:status(Invite), media_line(Invite)}),
@@ -182,7 +182,7 @@ media_line(Text) ->
 
 %%% Cases.
 
-%% Calls and a rule survive a take-over. A retransmitted INVITE gets a 200 with the same tag as from the first node.
+%% Calls and a rule survive a takeover. A retransmitted INVITE gets a 200 with the same tag as from the first node.
 the_other_node_takes_over(Config0) ->
     Config = [{a, A}, {b, B} | _] = with_pids_first(Config0),
     {Alice, RA} = call(Config),
@@ -398,7 +398,7 @@ what_the_standby_lacks_was_not_answered(Config0) ->
     ?assertEqual(error, peer:call(B, lobby_store, get, [lobby_settings, written])),
     ?assertMatch({ok, _}, until_durable(B)).
 
-%% The change waits for the standby, so that a take-over doesn't undo the isolation.
+%% The change waits for the standby, so that a takeover doesn't undo the isolation.
 a_change_waits_for_the_standby(Config) ->
     A = get(a, Config),
     {_, _} = call(Config),

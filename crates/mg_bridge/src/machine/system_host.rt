@@ -3,6 +3,7 @@ ghost use Rattle.std.specs.Prelude.{◌≤◌, ℕ, length, IfOk, IfSome};
 use crate::machine::control_watch::ControlWatch;
 use crate::machine::disk_file::DiskFile;
 use arrayvec::ArrayVec;
+use mg_arguments::MAX_BIND_ADDRESSES;
 use mg_clock::SystemWatch;
 use mg_core::Peer;
 use mg_dates::Date;
@@ -16,6 +17,9 @@ use std::fs::{File, OpenOptions};
 use std::io::{self, ErrorKind};
 use std::net::{IpAddr, SocketAddr};
 use std::time::{Clock, Duration};
+
+/// The maximum number of sockets that a poll can report.
+const MAX_REPORTED: usize = SOCKETS + MAX_BIND_ADDRESSES;
 
 /// The system's reports about sockets.
 #[derive(Drop)]
@@ -38,16 +42,36 @@ impl Reports {
 pub struct SystemHost<'a, C: Clock> {
     system: &'a HostRuntime,
     clock: &'a C,
-    sockets: ArrayVec<Option<UdpSocket>, SOCKETS>,
+    /// The control sockets. The first one received the last datagram. Until a datagram is received, it is the socket
+    /// that was bound first.
+    controls: ArrayVec<Option<UdpSocket>, MAX_BIND_ADDRESSES>,
+    media: ArrayVec<Option<UdpSocket>, SOCKETS>,
     /// The system's reports, or `None` until the first socket is bound.
     reports: Option<Reports>,
 }
 
 /// Creates a buffer for the system's reports.
 fn events(system: &HostRuntime) -> io::Result<Events> {
-    match Events::with_capacity(system.alloc(), SOCKETS) {
+    match Events::with_capacity(system.alloc(), MAX_REPORTED) {
         Ok(events) => Ok(events),
         Err(AllocError) => Err(io::Error::from(ErrorKind::OutOfMemory)),
+    }
+}
+
+/// Asks the system to report when a datagram arrives at a socket.
+fn watch_socket(poll: &Poll, socket: &mut UdpSocket, number: usize) -> io::Result<()> {
+    poll.registry()
+        .register(socket, Token(number), Interest::READABLE)
+}
+
+/// Adds a socket, if there is room for it.
+fn add<const N: usize>(
+    sockets: &mut ArrayVec<Option<UdpSocket>, N>,
+    socket: UdpSocket,
+) -> io::Result<()> {
+    match sockets.try_push(Some(socket)) {
+        Ok(()) => Ok(()),
+        Err(_) => Err(io::Error::from(ErrorKind::OutOfMemory)),
     }
 }
 
@@ -87,25 +111,69 @@ impl<'a, C: Clock> SystemHost<'a, C> {
         SystemHost {
             system,
             clock,
-            sockets: ArrayVec::new(),
+            controls: ArrayVec::new(),
+            media: ArrayVec::new(),
             reports: None,
         }
     }
 
-    /// Asks the system to report when a datagram arrives at the next socket.
-    fn register(&mut self, socket: &mut UdpSocket) -> io::Result<()> {
-        let number = self.sockets.len();
+    /// Binds a socket, and asks the system to report when a datagram arrives there.
+    fn open(&mut self, address: [u8; 4], port: u16, number: usize) -> io::Result<UdpSocket> {
+        let address = SocketAddr::new(IpAddr::from(address), port);
+        let mut socket = UdpSocket::bind(self.system, address)?;
         if self.reports.is_none() {
             self.reports = Some(Reports::new(self.system)?);
         }
-        match &self.reports {
-            Some(reports) => {
-                reports
-                    .poll
-                    .registry()
-                    .register(socket, Token(number), Interest::READABLE)
+        if let Some(reports) = &self.reports {
+            watch_socket(&reports.poll, &mut socket, number)?;
+        }
+        Ok(socket)
+    }
+
+    /// Receives a datagram from the socket with this number if one is waiting. Only the first control socket is tried.
+    fn receive_at(
+        &self,
+        number: usize,
+        buffer: &mut [u8],
+    ) -> Result<Option<(usize, Peer)>, PortFault>
+        ensures within { IfOk result (λ received. IfSome received (λ d. d.0 ≤ length buffer.new)) }
+    {
+        match self.socket(number) {
+            Some(socket) => receive_from(socket, buffer),
+            None => Err(PortFault),
+        }
+    }
+
+    /// Receives a datagram if one is waiting at a control socket. Returns `None` only if none is waiting at any of them.
+    ///
+    /// The last one to be tried is the socket that received the last datagram, so a flood there delays no other socket.
+    fn receive_control(&mut self, buffer: &mut [u8]) -> Result<Option<(usize, Peer)>, PortFault>
+        ensures within { IfOk result (λ received. IfSome received (λ d. d.0 ≤ length buffer.new)) }
+    {
+        let mut has_failed = self.controls.is_empty();
+        for _ in 0..self.controls.len() {
+            if self.controls.len() > 1 {
+                self.controls.rotate_left(1);
             }
-            None => Ok(()),
+            match self.receive_at(0, buffer) {
+                Ok(Some(datagram)) => return Ok(Some(datagram)),
+                Ok(None) => {}
+                Err(PortFault) => has_failed = true,
+            }
+        }
+        if has_failed { Err(PortFault) } else { Ok(None) }
+    }
+
+    /// Returns the socket with this number, or the first control socket for 0.
+    fn socket(&self, number: usize) -> Option<&UdpSocket> {
+        let socket = if number == 0 {
+            self.controls.first()
+        } else {
+            self.media.get(number - 1)
+        };
+        match socket {
+            Some(Some(socket)) => Some(socket),
+            _ => None,
         }
     }
 }
@@ -138,13 +206,17 @@ impl<'a, C: Clock> Texts for SystemHost<'a, C> {
 
 impl<'a, C: Clock> Sockets for SystemHost<'a, C> {
     fn bind(&mut self, address: [u8; 4], port: u16) -> io::Result<()> {
-        let address = SocketAddr::new(IpAddr::from(address), port);
-        let mut socket = UdpSocket::bind(self.system, address)?;
-        self.register(&mut socket)?;
-        match self.sockets.try_push(Some(socket)) {
-            Ok(()) => Ok(()),
-            Err(_) => Err(io::Error::from(ErrorKind::OutOfMemory)),
+        if self.controls.is_empty() {
+            return self.bind_also(address, port);
         }
+        let number = self.media.len() + 1;
+        let socket = self.open(address, port, number)?;
+        add(&mut self.media, socket)
+    }
+
+    fn bind_also(&mut self, address: [u8; 4], port: u16) -> io::Result<()> {
+        let socket = self.open(address, port, 0)?;
+        add(&mut self.controls, socket)
     }
 
     fn poll(&mut self, marks: &mut [bool]) -> io::Result<()> {
@@ -167,15 +239,19 @@ impl<'a, C: Clock> Sockets for SystemHost<'a, C> {
         socket: usize,
         buffer: &mut [u8],
     ) -> Result<Option<(usize, Peer)>, PortFault> {
-        match self.sockets.get(socket) {
-            Some(Some(socket)) => receive_from(socket, buffer),
-            _ => Err(PortFault),
+        if socket == 0 {
+            self.receive_control(buffer)
+        } else {
+            self.receive_at(socket, buffer)
         }
     }
 
     /// Fails if only part of the datagram is sent.
+    ///
+    /// A session answers a message before it receives the next one. So the answer leaves from the control socket at which
+    /// the message arrived.
     fn send(&mut self, socket: usize, to: Peer, bytes: &[u8]) -> Result<(), PortFault> {
-        let Some(Some(socket)) = self.sockets.get(socket) else {
+        let Some(socket) = self.socket(socket) else {
             return Err(PortFault);
         };
         let to = SocketAddr::new(IpAddr::from(to.address), to.port);
@@ -198,9 +274,10 @@ impl<'a, C: Clock> Clocks for SystemHost<'a, C> {
     fn watch(&mut self) -> io::Result<ControlWatch<'a, C>> {
         let events = events(self.system)?;
         let poll = Poll::new(self.system)?;
-        if let Some(Some(control)) = self.sockets.get_mut(0) {
-            poll.registry()
-                .register(control, Token(0), Interest::READABLE)?;
+        for control in self.controls.iter_mut() {
+            if let Some(control) = control {
+                watch_socket(&poll, control, 0)?;
+            }
         }
         Ok(ControlWatch::new(SystemWatch::new(self.clock), poll, events))
     }

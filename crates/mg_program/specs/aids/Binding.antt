@@ -2,7 +2,7 @@
 use Rattle.std.specs.Prelude.{◌≡◌, ◌⊎◌, ℕ, ◌<◌, List, ◌∷◌, map, Option, true, unwrap_or}
 use Rattle.std.specs.List.{range_with_len}
 use Rattle.mg_host.specs.declared.host_call.HostCall.{HostCall}
-use Rattle.mg_host.specs.declared.host_call.HostCall.TheVariants.{Bind}
+use Rattle.mg_host.specs.declared.host_call.HostCall.TheVariants.{Bind, BindAlso}
 use Rattle.mg_engine.specs.Limits.{slot_port}
 use Rattle.mg_engine.specs.declared.config.Config.{Config}
 use Rattle.mg_engine.specs.Config.{limits_of}
@@ -18,3 +18,7 @@ first_binds config address count =
     Bind (unwrap_or address config.control_address) config.control_port true
     ∷ map (λ slot. Bind (unwrap_or address config.address) (slot_port (limits_of config) slot) true)
     (range_with_len 0 count)
+
+-- A further control socket on each of these addresses.
+abbrev pub other_binds : (port : ℕ) → (addresses : List (List ℕ)) → List HostCall
+other_binds port addresses = map (λ address. BindAlso address port true) addresses

@@ -6,19 +6,20 @@ use Rattle.mg_arguments.proofs.options.on_sockets.Goals as goal
 pub returns-clause-app : goal.returns-clause-app
 returns-clause-app c =
     let bind_address = adds_rule _ _ _ _ _ c.in_ok-arg.ensures c.in_ok-subcommand.ensures.app
-    (ap rule_of c.help.ensures ∙ c.address_option.ensures.rule) refl in
-    let controller = adds_rule _ _ _ _ _ c.in_ok-arg-2.ensures bind_address c.controller_option.ensures.rule refl in
+    (ap rule_of c.help.ensures ∙ c.addresses_option.ensures.rule) refl in
+    let controller = adds_rule _ _ _ _ _ c.in_ok-arg-2.ensures bind_address
+    (ap rule_of c.help-2.ensures ∙ c.addresses_option-2.ensures.rule) refl in
     let report = adds_rule _ _ _ _ _ c.in_ok-arg-3.ensures controller
-    (ap rule_of c.help-2.ensures ∙ c.short_number.ensures.rule) refl in
-    let record_rule = adds_rule _ _ _ _ _ c.in_ok-arg-4.ensures report (ap rule_of c.help-3.ensures ∙ c.flag.ensures.rule) refl in
+    (ap rule_of c.help-3.ensures ∙ c.short_number.ensures.rule) refl in
+    let record_rule = adds_rule _ _ _ _ _ c.in_ok-arg-4.ensures report (ap rule_of c.help-4.ensures ∙ c.flag.ensures.rule) refl in
     let symmetric = adds_rule _ _ _ _ _ c.in_ok-arg-5.ensures record_rule
-    (ap rule_of c.help-4.ensures ∙ c.flag-2.ensures.rule) refl in
+    (ap rule_of c.help-5.ensures ∙ c.flag-2.ensures.rule) refl in
     let journal = adds_rule _ _ _ _ _ c.in_ok-arg-6.ensures symmetric
-    (ap rule_of c.help-5.ensures ∙ c.file_option.ensures.rule) refl in
-    let sync_rule = adds_rule _ _ _ _ _ c.in_ok-arg-7.ensures journal (ap rule_of c.help-6.ensures ∙ c.flag-3.ensures.rule)
+    (ap rule_of c.help-6.ensures ∙ c.file_option.ensures.rule) refl in
+    let sync_rule = adds_rule _ _ _ _ _ c.in_ok-arg-7.ensures journal (ap rule_of c.help-7.ensures ∙ c.flag-3.ensures.rule)
     refl in
-    let fence = adds_rule _ _ _ _ _ c.in_ok-arg-8.ensures sync_rule (ap rule_of c.help-7.ensures ∙ c.flag-4.ensures.rule)
+    let fence = adds_rule _ _ _ _ _ c.in_ok-arg-8.ensures sync_rule (ap rule_of c.help-8.ensures ∙ c.flag-4.ensures.rule)
     refl in
-    let strict = adds_rule _ _ _ _ _ c.in_ok-arg-9.ensures fence (ap rule_of c.help-8.ensures ∙ c.flag-5.ensures.rule)
+    let strict = adds_rule _ _ _ _ _ c.in_ok-arg-9.ensures fence (ap rule_of c.help-9.ensures ∙ c.flag-5.ensures.rule)
     refl in
-    adds_rule _ _ _ _ _ c.in_ok-command.ensures strict (ap rule_of c.help-9.ensures ∙ c.long_number.ensures.rule) refl
+    adds_rule _ _ _ _ _ c.in_ok-command.ensures strict (ap rule_of c.help-10.ensures ∙ c.long_number.ensures.rule) refl

@@ -10,7 +10,7 @@ pub returns-in-Ok : goal.returns-in-Ok
 returns-in-Ok g c =
     let text : Option (List ℕ) = option_map_or (λ j. text_in j.opening.file) c.args.prepared.journal (Some []) in
     let (bound, binds, can) = c.in-Ok.ensures.start in
-    let grows : Grows (g.H.Tells.calls c.args.host) bound (binds_of c.in-Ok.ready.config c.args.service.now.bind_address) =
+    let grows : Grows (g.H.Tells.calls c.args.host) bound (binds_of c.in-Ok.ready.config c.args.service.now.bind_addresses) =
     subst (λ (config : Config). Grows (g.H.Tells.calls c.args.host) bound
-    (binds_of config c.args.service.now.bind_address)) (sym c.in-Ok.ensures.config) binds in
+    (binds_of config c.args.service.now.bind_addresses)) (sym c.in-Ok.ensures.config) binds in
     record { value = rw c.in-Ok.ensures.config at (c.live_ready.ensures.value text (g.H.Tells.calls c.args.host) bound can grows) }

@@ -10,8 +10,8 @@ pub returns-in-Err : goal.returns-in-Err
 returns-in-Err g c = record {
   value = λ text found bound can binds. inr (
     fails_anyhow c.args.ready.config c.watch_fault-status.result c.watch_fault-status.ensures.ends,
-    not_started c.args.service.now.journal text c.args.service.now.bind_address c.args.ready.config can.started.missed
-        c.args.service.now.fence_from c.args.ready.config.slots found bound (g.H.Tells.calls c.args.host) (g.H.Tells.calls c.watch.new.self) binds
+    not_started c.args.service.now.journal text c.args.service.now.bind_addresses c.args.ready.config can.started.missed
+        c.args.service.now.fence_from found bound (g.H.Tells.calls c.args.host) (g.H.Tells.calls c.watch.new.self) binds
         can.started.begins c.watch.ensures.same,
     refl,
   );
@@ -21,8 +21,8 @@ pub returns-in-Err-monitor : goal.returns-in-Err-monitor
 returns-in-Err-monitor g c = record {
   value = λ text found bound can binds. inr (
     tt,
-    not_started c.args.service.now.journal text c.args.service.now.bind_address c.args.ready.config can.started.missed
-        c.args.service.now.fence_from c.args.ready.config.slots found bound (g.H.Tells.calls c.args.host) (g.H.Tells.calls c.watch.new.self) binds
+    not_started c.args.service.now.journal text c.args.service.now.bind_addresses c.args.ready.config can.started.missed
+        c.args.service.now.fence_from found bound (g.H.Tells.calls c.args.host) (g.H.Tells.calls c.watch.new.self) binds
         can.started.begins c.watch.ensures.same,
     refl,
   );

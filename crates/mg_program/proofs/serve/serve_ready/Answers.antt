@@ -5,8 +5,8 @@ use Rattle.mg_program.proofs.serve.serve_ready.Goals as goal
 pub returns-in_default-clause-value : goal.returns-in_default-clause-value
 returns-in_default-clause-value g c = λ text found bound can binds. inr (
   tt,
-  not_started c.args.service.now.journal text c.args.service.now.bind_address c.args.ready.config can.started.missed
-      c.args.service.now.fence_from c.args.ready.config.slots found bound (g.H.Tells.calls c.args.host) (g.H.Tells.calls c.args.host) binds
+  not_started c.args.service.now.journal text c.args.service.now.bind_addresses c.args.ready.config can.started.missed
+      c.args.service.now.fence_from found bound (g.H.Tells.calls c.args.host) (g.H.Tells.calls c.args.host) binds
       can.started.begins refl,
   (refl, refl),
 )

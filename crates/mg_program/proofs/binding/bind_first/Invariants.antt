@@ -1,6 +1,6 @@
 use Rattle.mg_host.specs.HostCalls.{Grows}
 use Rattle.mg_program.specs.aids.Binding.{first_binds}
-use Rattle.mg_program.proofs.binding.bind_all.Given as goal
+use Rattle.mg_program.proofs.binding.bind_first.Given as goal
 
 abbrev pub invariant-loop-slot : goal.invariant-loop-slot
 invariant-loop-slot g l =

@@ -132,7 +132,7 @@ def changes(system):
     lines = system.tried("cd /var/lib/lobbysorrel-controller; grep -c PUT audit.jsonl; stat -c %a audit.jsonl").stdout.split()
     runs = system.show(UNIT, "MainPID") == main
     check(f"a change: {answer}; the audit log's lines about it, and its mode: {lines}; the controller still runs: {runs}",
-          answer == 200 and lines == ["1", "600"] and runs)
+          answer == 200 and lines == ["2", "600"] and runs)
 
 
 def failures(system):

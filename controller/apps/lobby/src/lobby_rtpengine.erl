@@ -5,8 +5,10 @@
 
 -export([start_link/1, ask/2, state/0]).
 
-%% Milliseconds until each retransmission of a request, and between checks of rtpengine.
+%% Milliseconds until each retransmission of a request, until no request that was sent before is under way, and between
+%% checks of rtpengine.
 -define(TRIES, [200, 400, 800]).
+-define(LATER, 2000).
 -define(LOOK, 1000).
 
 %% @doc Starts a process that checks rtpengine regularly, if one is configured.
@@ -27,7 +29,17 @@ state() ->
 -spec ask(Tag :: term(), map()) -> ok.
 ask(Tag, Request) ->
     Self = self(),
-    _ = spawn(fun() -> Self ! {rtpengine, Tag, answer(Request)} end),
+    _ = spawn(fun() ->
+        Self ! {rtpengine, Tag, answer(Request)},
+        again(Request)
+    end),
+    ok.
+
+%% The call's offer may arrive after the request to delete the call, and create the call again. So it is deleted again.
+again(Request = #{command := delete}) ->
+    timer:sleep(?LATER),
+    answer(Request);
+again(_) ->
     ok.
 
 answer(Request) ->

@@ -16,3 +16,19 @@ nothing_can_be_sent_test_() -> {timeout, 60, fun() ->
     ok = application:unset_env(lobby, rtpengine),
     ignore = lobby_rtpengine:start_link(none)
 end}.
+
+%% A call whose offer arrives after it was deleted is deleted again.
+a_late_offer_test_() -> {timeout, 120, fun() ->
+    Relay = rtpengine:start(),
+    ok = application:set_env(lobby, rtpengine, rtpengine:address(Relay)),
+    {_, Sdp} = rtpengine:offer(Relay),
+    Asked = fun(Request) ->
+        ok = lobby_rtpengine:ask(tag, Request#{'call-id' => <<"late">>}),
+        receive {rtpengine, tag, Result} -> Result end
+    end,
+    {error, _} = Asked(#{command => delete}),
+    {ok, _} = Asked(#{command => offer, 'from-tag' => web, sdp => Sdp}),
+    ?assertEqual([<<"late">>], rtpengine:calls(Relay)),
+    lobby_case:until(fun() -> rtpengine:calls(Relay) =:= [] end),
+    ok = application:unset_env(lobby, rtpengine)
+end}.

@@ -62,6 +62,12 @@ class Runs(Commands):
             self.ends(2, "", f"127.0.0.1:{FIRST} doesn't answer: timed out\n", "check", f"127.0.0.1:{FIRST}")
             other.join()
 
+    def test_check_of_a_gateway_that_answers_from_another_address(self):
+        with Gateway("live", *ports(0, 1), "--bind-address=0.0.0.0"):
+            wanted = f"127.0.0.2:{FIRST} doesn't answer, but an answer came from 127.0.0.1:{FIRST}\n"
+            self.ends(2, "", wanted, "check", f"127.0.0.2:{FIRST}")
+            self.assertEqual(run("check", f"127.0.0.1:{FIRST}")[0], 0)
+
     def test_check_of_a_gateway_that_is_not_there(self):
         wanted = f"127.0.0.1:{FIRST} doesn't answer: Connection refused (os error 111)\n"
         self.ends(2, "", wanted, "check", f"127.0.0.1:{FIRST}")
@@ -70,7 +76,7 @@ class Runs(Commands):
         with bound(FIRST) as (gateway,):
             self.ends(2, "", f"127.0.0.1:{FIRST} doesn't answer: timed out\n", "check", f"127.0.0.1:{FIRST}")
             heartbeat = b"MEGACO/1 <check>\nTransaction=1{Context=-{AuditValue=ROOT}}"
-            self.assertEqual([gateway.recv(100) for _ in range(3)], [heartbeat] * 3)
+            self.assertEqual([gateway.recv(100) for _ in range(4)], [heartbeat] * 4)
 
     def test_check_acknowledges_the_answer(self):
         """So the gateway doesn't have to keep the reply."""

@@ -4,7 +4,7 @@ usage: start.py BRIDGE FOLDER
 
 The journals, in FOLDER, are written by this trial: 256 terminations in conferences of eight, 20,000 messages a day, and a
 seal a minute. A controller replaces a member, sets the new one to listen and isolates it, in one conference after another.
-The journal of 30 days has a gigabyte. Exits with 1 if a gateway doesn't know all messages and terminations, or if the median
+The journal of 30 days has 300 MB. Exits with 1 if a gateway doesn't know all messages and terminations, or if the median
 of three starts is more than 0.3 s for a day, or 5 s for 30.
 """
 import datetime

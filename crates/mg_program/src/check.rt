@@ -6,7 +6,7 @@ use mg_fence::{ACKNOWLEDGEMENT, HEARTBEAT};
 use mg_options::Status;
 use std::io;
 use std::io::{ErrorKind, Write};
-use std::net::{Ipv4Addr, Net, SocketAddrV4, UdpSocket};
+use std::net::{IpAddr, Ipv4Addr, Net, SocketAddr, SocketAddrV4, UdpSocket};
 use std::time::{Clock, Duration};
 
 /// The part of the heartbeat's reply that follows the sender.
@@ -47,6 +47,48 @@ fn ask(socket: &UdpSocket, gateway: SocketAddrV4) -> io::Result<()> {
     Err(io::Error::from(ErrorKind::TimedOut))
 }
 
+/// Sends the heartbeat once more, and returns another address from which it is answered. A gateway that is bound to
+/// 0.0.0.0 may answer from there, and the socket that asked before receives only from the gateway's address.
+fn other_answer<N: Net>(
+    net: &N,
+    source: Ipv4Addr,
+    gateway: SocketAddrV4,
+) -> io::Result<SocketAddr> {
+    let socket = UdpSocket::bind(net, SocketAddrV4::new(source, 0))?;
+    socket.set_read_timeout(Some(Duration::from_millis(WAIT_MS)))?;
+    socket.send_to(HEARTBEAT, gateway)?;
+    let mut buffer = [0; REPLY_ROOM];
+    let (n, from) = socket.recv_from(&mut buffer)?;
+    let _ = socket.send_to(ACKNOWLEDGEMENT, gateway);
+    if answers_heartbeat(&buffer[..n]) && from.ip() != IpAddr::V4(*gateway.ip()) {
+        Ok(from)
+    } else {
+        Err(io::Error::from(ErrorKind::TimedOut))
+    }
+}
+
+/// Reports to `errors` that a gateway doesn't answer.
+fn report_silence<N: Net, E: Write>(
+    net: &N,
+    source: Ipv4Addr,
+    gateway: SocketAddrV4,
+    error: &io::Error,
+    errors: &mut E,
+) {
+    let other = if error.kind() == ErrorKind::TimedOut {
+        other_answer(net, source, gateway).ok()
+    } else {
+        None
+    };
+    let _ = match other {
+        Some(other) => writeln!(
+            errors,
+            "{gateway} doesn't answer, but an answer came from {other}"
+        ),
+        None => writeln!(errors, "{gateway} doesn't answer: {error}"),
+    };
+}
+
 /// Returns the time since a reading of the clock, in microseconds, or zero if the clock can't be read.
 fn micros_since<C: Clock>(clock: &C, begun: io::Result<Duration>) -> u128 {
     match (begun, clock.monotonic()) {
@@ -80,7 +122,7 @@ pub fn check<N: Net, C: Clock, W: Write, E: Write>(
     };
     let begun = clock.monotonic();
     if let Err(error) = ask(&socket, address) {
-        let _ = writeln!(errors, "{address} doesn't answer: {error}");
+        report_silence(net, source, address, &error, errors);
         return Status::NoAnswer;
     }
     let micros = micros_since(clock, begun);

@@ -29,18 +29,12 @@ state() ->
 -spec ask(Tag :: term(), map()) -> ok.
 ask(Tag, Request) ->
     Self = self(),
-    _ = spawn(fun() ->
-        Self ! {rtpengine, Tag, answer(Request)},
-        again(Request)
-    end),
+    _ = spawn(fun() -> Self ! {rtpengine, Tag, answer(Request)}, again(Request) end),
     ok.
 
 %% The call's offer may arrive after the request to delete the call, and create the call again. So it is deleted again.
-again(Request = #{command := delete}) ->
-    timer:sleep(?LATER),
-    answer(Request);
-again(_) ->
-    ok.
+again(Request = #{command := delete}) -> timer:sleep(?LATER), answer(Request);
+again(_) -> ok.
 
 answer(Request) ->
     case {application:get_env(lobby, rtpengine, none), gen_udp:open(0, [binary, {active, false}, {recbuf, 65536}])} of

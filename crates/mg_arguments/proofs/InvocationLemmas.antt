@@ -236,7 +236,7 @@ pub at_error : {T E X : Type 0} (r : Result T E) → X → IfErr r (λ e. X)
 at_error (Ok value) x = tt
 at_error (Err e) x = x
 
--- If the run of the subcommand is refused with a kind of error, the whole request is refused with this kind.
+-- If the run of the subcommand is refused with `ValueValidation`, the whole request is refused with this kind of error.
 pub refuses : (requested : Result Invocation Kinds) (name : Text) (rows : List Row) (kind : ErrorKind) →
     requested ≡ run_in name rows → run_in name rows ≡ Err (ValueValidation ∷ []) → kind ≡ ValueValidation →
     IsRefused requested kind

@@ -390,8 +390,8 @@ run_in name found =
     else (if bytes_eq name (codes "verify") then verify_in found
     else (if bytes_eq name (codes "seal") then Ok Seal else gateway_in name found)))
 
--- The run that the words request. They request no run if the parser reports an error, or if a text is not a valid value
--- of its option.
+-- The run that the words request. They request no run if the parser reports an error, if a text is not a valid value of
+-- its option, or if the options contradict each other.
 unfoldable pub requested : List Text → Result Invocation Kinds
 requested words = requested_by (fault_of command_line words) (option_map_or
     (λ found. run_in found.0 found.1) (subcommand_of command_line words) (Err []))

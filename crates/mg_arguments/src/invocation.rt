@@ -13,9 +13,9 @@ pub enum Invocation {
     Replay(Config, Shown),
     /// Run a gateway on UDP ports, driven by input lines.
     Serve(Config, Service),
-    /// Run a gateway on UDP ports, driven by the clock. First, some numbers of its configuration are drawn at random.
-    /// The last field is the maximum lateness of a tick, in ticks: if a tick is later than that, its packets are not
-    /// sent.
+    /// Run a gateway on UDP ports, driven by the clock. First, the numbers of its configuration that the third field
+    /// selects are drawn at random. The last field is the maximum lateness of a tick, in ticks: if a tick is later than
+    /// that, its packets are not sent.
     Live(Config, Service, Draws, u16),
     /// Check that the gateway with this control port answers messages from this address. 0.0.0.0 is any address of the
     /// machine.

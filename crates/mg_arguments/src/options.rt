@@ -322,7 +322,7 @@ fn controllers_of(matches: &ArgMatches<'_>) -> Result<Controllers, ControllerFau
     }
 }
 
-/// Returns the addresses to bind sockets to that the command line names.
+/// Returns the addresses on the command line to which sockets are to be bound.
 fn bind_addresses_of(matches: &ArgMatches<'_>) -> Result<BindAddresses, BindAddressFault>
     ensures value { result ≡ bind_addresses_of (unwrap_or (all_of (codes "bind-address") (rows_of (found_of matches.now))) []) }
 {

@@ -35,7 +35,7 @@ pub struct Service {
     /// The number at which the fence begins, or `None` to begin at the number that the journal has reached.
     pub fence_from: Option<u32>,
     /// The options of the configuration that are given. With a journal, the other options come from the journal's
-    /// title.
+    /// title, if it has one.
     pub given: Given,
 }
 

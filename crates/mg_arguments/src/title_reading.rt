@@ -11,7 +11,7 @@ use std::alloc::Global;
 /// The maximum number of words in a title: two, and an option for each field of the configuration.
 const WORDS: usize = 12;
 
-/// Returns the configuration in a title, or `None` if `title` isn't a title.
+/// Returns the configuration in a title, or `None` if `title` isn't a title or memory runs out.
 ///
 /// A title consists of the arguments of `mg_bridge replay`, so the command line's parser reads it.
 pub fn titled(alloc: Global, title: &[u8]) -> Option<Config>

@@ -2,7 +2,7 @@ use crate::file_path::FilePath;
 use crate::printing::Printing;
 use crate::rules::Rules;
 
-/// A request to check that a script keeps rules.
+/// A request to check whether a script obeys rules.
 #[derive(Drop)]
 pub struct WatchRequest {
     /// The script's file, or `None` for standard input.

@@ -11,8 +11,8 @@
 //! [`write_audible`] writes a line for each audible interval and each gap that a query selects.
 //!
 //! If an interval contains a tick, the two gateways send the listener different bytes in that tick, and the talker's
-//! speech reaches the listener (`specs/Laws.antt`). If the bytes are equal, either the talker could not be heard, or
-//! the talker was silent.
+//! speech reaches the listener (`specs/Laws.antt`). If the bytes are equal, the talker could not be heard, was silent,
+//! or was too quiet to change the bytes.
 //!
 //! Dates and gaps come from the script's comments, as in [`mg_heard`].
 #![tactic(auto)]

@@ -1,8 +1,8 @@
 use mg_outlet::{Outlet, Pipe};
 use std::io::{self, Write};
 
-/// A gateway's output, which never waits for its reader. If the output ends because its reader is too slow, the
-/// operator is notified once.
+/// A gateway's output, which waits for its reader only in `finish`. If the output ends because its reader is too slow,
+/// the operator is notified once.
 #[derive(Drop)]
 pub struct LiveOutput<P, E> {
     outlet: Outlet<P>,

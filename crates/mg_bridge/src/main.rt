@@ -4,7 +4,7 @@
 //!
 //! `mg_bridge live` runs a gateway on UDP ports in real time.
 //!
-//! `mg_bridge serve` runs the same gateway, driven by lines on standard input. `poll` receives the waiting datagrams,
+//! `mg_bridge serve` runs the same gateway, driven by lines on standard input. `poll` receives waiting datagrams,
 //! `tick` advances by 20 ms and sends the packets, `stats` prints the counts, and `quit` ends the run. Another program,
 //! `mg_pace`, writes `poll` and `tick` when the clock says that they are due.
 //!
@@ -52,7 +52,8 @@ fn error_outlet(rt: &HostRuntime) -> Result<Outlet<SystemPipe<Stderr>>, OutletFa
     Outlet::watching(rt, rt.alloc(), rt.stderr(), ERRORS_LIMIT, Overflow::Skip)
 }
 
-/// Returns a program's exit status: `code`, unless the program succeeded but its last output couldn't be written.
+/// Returns the exit status of a program: `code`, or that of a failed write if the program succeeded but its last output
+/// couldn't be written. In that case, the failure is reported to `errors`.
 fn status_at_end<E: Write>(code: u8, passed: &io::Result<()>, errors: &mut E) -> u8 {
     if code != Status::Done.code() || passed.is_ok() {
         return code;
@@ -72,7 +73,7 @@ fn status_without_outlets(fault: &OutletFault) -> Status {
     }
 }
 
-/// Runs a gateway without waiting for its readers. When `serve` ends, waits until its output has been read.
+/// Runs a gateway without waiting for its readers. When `serve` ends, waits until all of its output has been written.
 fn run_gateway(rt: &HostRuntime, words: &[String], is_serve: bool) -> Result<u8, OutletFault> {
     let outlet = Outlet::watching(rt, rt.alloc(), rt.stdout(), OUTPUT_LIMIT, Overflow::End)?;
     let mut output = LiveOutput::new(outlet, error_outlet(rt)?);

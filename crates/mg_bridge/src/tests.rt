@@ -1,5 +1,5 @@
-//! Tests of what no run of the built program shows: values of the libraries, and clocks and random numbers that fail.
-//! Everything else is tested on the built program.
+//! Tests of what no run of the built program shows: results of single functions, a journal that is emptied at a bad
+//! moment, and clocks and random numbers that fail. The rest of the program is tested on the built program.
 
 mod drawing;
 mod emptied;

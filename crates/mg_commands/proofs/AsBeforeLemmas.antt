@@ -160,7 +160,8 @@ trial_fails source c run (Err e) (refused _) h = refl
 
 -- ## Commands
 
--- If neither the first command nor the rest changes the gateway without a success, neither do both in sequence.
+-- If neither the first command nor the rest changes the gateway without a success, the two in sequence don't do so
+-- either.
 go_on_keeps : (rest : ActionState → ActionState × Bool) (run : ActionState) (x : ActionState × Bool) → Keeps run x.0 →
     ((s : ActionState) → Keeps s (rest s).0) → Keeps run (continue_with rest x).0
 go_on_keeps rest run (s, true) h k = kept_on run s (rest s).0 h (k s)

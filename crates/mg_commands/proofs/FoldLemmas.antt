@@ -26,7 +26,7 @@ use Rattle.mg_commands.specs.aids.Steps.{action_unless}
 
 -- ## Commands
 
--- The transaction state of an action, given whether all commands so far succeeded.
+-- The transaction state of an action, given whether each command so far succeeded or was optional.
 abbrev state_of : ActionState → Bool → TransactionState
 state_of run is_done = record {
   gateway = run.gateway;

@@ -419,7 +419,7 @@ module _ (source : List ℕ) (a : Action) (old middle : EngineState) (before sai
   continues s run did = ap (λ (o : Option ErrorNumber). action_unless o source a s) none ∙
       ap (after_commands source a.properties) did
 
-  -- If a command failed, nothing more is executed.
+  -- If a command that is not optional failed, nothing more is executed.
   pub action_stopped : (new : EngineState) (reported closed : Answered) (is_done : Bool) → were_done ≡ false →
       is_done ≡ were_done → new ≡ middle → reported ≡ said →
       closed ≡ after_put reported (replies.Action (id_of progress.target))
@@ -435,7 +435,7 @@ module _ (source : List ℕ) (a : Action) (old middle : EngineState) (before sai
             (rw kept stands.gateway) said_so,
       )
 
-  -- If all commands succeeded, the properties of the action are applied.
+  -- If all commands that are not optional succeeded, the properties of the action are applied.
   pub action_finished : (new : EngineState) (reported closed : Answered) (is_done : Bool) → were_done ≡ true →
       ((w : Gateway) → StandsFor middle w → ReportsProperties new said reported is_done w
       (context_outcome source progress.made a.properties w progress.target)) → new.sums.work ≡ middle.sums.work →

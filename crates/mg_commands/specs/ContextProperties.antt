@@ -73,7 +73,7 @@ action_fault a =
 
 -- ## After the commands
 
--- The meaning of a name in a triple. `$` is the termination that the action's first Add created.
+-- The meaning of a name in a triple. `$` is the first termination that an Add of the action created, if there is one.
 abbrev pub term_of : Option ℕ → Name → TripleTerm
 term_of made names.Root = terms.Barred
 term_of (Some n) names.Choose = terms.Number n
@@ -99,8 +99,7 @@ abbrev pub triples_of : List ℕ → Option ℕ → List ContextProperty → Lis
 triples_of source made ps =
     map (topology_triple_of source made) (unwrap_or (first_of triples_in ps) [])
 
--- The item that reports which of two members hears the other. The flags say whether `b` hears `a`, and whether `a`
--- hears `b`.
+-- The item that reports who hears whom of two members. The flags say whether `b` hears `a`, and whether `a` hears `b`.
 abbrev pub pair_item : Bool → Bool → ℕ → ℕ → Item
 pair_item true true a b = replies.Triple (rtp_name a) (rtp_name b) Bothway
 pair_item true false a b = replies.Triple (rtp_name a) (rtp_name b) Oneway
@@ -120,8 +119,8 @@ abbrev pub audit_items : List ContextProperty → Gateway → ℕ → List Item
 audit_items ps w c =
     if list_any is_context_audit ps then audit_pairs w (members_at w.rooms c) else []
 
--- The outcome of an action's properties: its triples are applied, and then its audit is answered. Without properties,
--- nothing happens.
+-- The outcome of an action's properties: its triples are applied, and then its audit is answered. If the triples can't
+-- be applied, the outcome is the error. Without properties, nothing happens.
 abbrev pub context_outcome : List ℕ → Option ℕ → List ContextProperty → Gateway → Target
     → Result (Gateway × List Item) ErrorNumber
 context_outcome source made [] w target = Ok (w, [])

@@ -34,7 +34,8 @@ same_control source (controls.Property a v) (controls.Property b w) =
     is_jitter source a && is_jitter source b
 same_control source _ _ = false
 
--- Whether one part repeats another. A word of a stream counts only within its stream, and Stream may be repeated.
+-- Whether one part repeats another. A word of a stream counts only within its stream. Stream and the words of an Audit
+-- may be repeated.
 abbrev pub is_same_part : List ℕ → Part → Part → Bool
 is_same_part source parts.Media parts.Media = true
 is_same_part source parts.Audit parts.Audit = true
@@ -57,6 +58,6 @@ part_fault source before x = fault_of (list_any (is_same_part source x) before) 
 abbrev pub descriptors_fault : List ℕ → List Descriptor → Option ErrorNumber
 descriptors_fault source xs = first_after (part_fault source) [] (parts_of xs)
 
--- A fault in a stream's number or in a property. It counts only if no descriptor is faulty.
+-- The first fault in a stream's number or in a LocalControl. It counts only if no descriptor is faulty.
 abbrev pub properties_fault : List ℕ → List Descriptor → Option ErrorNumber
 properties_fault source xs = first_of (property_fault source) (parts_of xs)

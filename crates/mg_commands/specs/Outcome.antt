@@ -74,7 +74,7 @@ names_for w target word name = Ok (name ∷ [])
 
 -- ## Checks of the name
 
--- Checks that an Add does not name an existing termination, because it creates one.
+-- Checks that an Add requests a new termination instead of naming one.
 abbrev pub check_new_name : Gateway → Name → Result (Unit {0}) ErrorNumber
 check_new_name w names.Choose = Ok tt
 check_new_name w (names.Number n) =
@@ -83,7 +83,7 @@ check_new_name w (names.Number n) =
 check_new_name w names.Other = Err errors.UnknownTermination
 check_new_name w _ = Err errors.IdentifierNotAllowed
 
--- The number of the termination that a command names.
+-- The number of the termination that a command names, or the error if the name denotes anything else.
 abbrev pub number_in : Name → Result ℕ ErrorNumber
 number_in (names.Number n) = Ok n
 number_in names.Other = Err errors.UnknownTermination
@@ -95,7 +95,7 @@ number_in _ = Err errors.IdentifierNotAllowed
 abbrev pub whole_media : Record → Media
 whole_media r = Whole (record { mode = r.mode; depth = r.depth }) r.local r.remote
 
--- All settings of a termination's media, or only its Local.
+-- All settings of a termination's media, or only its Local, as requested, or nothing.
 abbrev pub reply_media : ReplyDescriptors → Record → Option Media
 reply_media descriptors r =
     if descriptors.media then Some (whole_media r)
@@ -123,11 +123,11 @@ abbrev pub served_at : Gateway → Target → Record → ReplyDescriptors → Se
 served_at w target r descriptors =
     served_as target (rtp_name r.number) (reply_parts descriptors w r)
 
--- The result of a command after which the termination is in a new context.
+-- The result of a command that put the termination into a context.
 abbrev pub entered_at : Gateway → Record → ReplyDescriptors → Served
 entered_at w r descriptors = served_at w (targets.Number r.context) r descriptors
 
--- The audit of `ROOT`, which is allowed in the null context and has no parts.
+-- The audit of `ROOT`, which is allowed only in the null context and has no parts.
 abbrev pub audit_root : Target → Result Served ErrorNumber
 audit_root targets.Null =
     Ok (served_as targets.Null (codes "ROOT") (record { media = None; statistics = None }))

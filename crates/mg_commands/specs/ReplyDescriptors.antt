@@ -19,7 +19,8 @@ descriptors_by_audit parameters =
       statistics = parameters.audits_statistics;
     }
 
--- The descriptors after an Add, Modify or Move: the descriptors that the command audits, and the Local that was set.
+-- The descriptors after an Add, Modify or Move: the descriptors that the command audits and, if it set a non-blank
+-- Local, this Local.
 abbrev pub descriptors_after : CommandParameters → ReplyDescriptors
 descriptors_after parameters =
     record (descriptors_by_audit parameters) { local = is_offer parameters.settings.local }

@@ -48,12 +48,13 @@ is_unserved _ = false
 unfoldable pub is_jitter : List ℕ → Span → Bool
 is_jitter source name = str_eq_ignore_ascii_case (text_of source name) (codes "nt/jit")
 
--- The value of `nt/jit` in milliseconds: a word that is a number of one to five digits.
+-- The value of `nt/jit` in milliseconds: a word that is a number of one to five digits, at most 65535.
 abbrev pub jitter_of : List ℕ → Option PropertyValue → Option ℕ
 jitter_of source (Some (values.Word word)) = uint16_of (text_of source word)
 jitter_of source _ = None
 
--- The fault in a part of a LocalControl: a reservation, an unsupported property, or a value that is not allowed.
+-- The fault in a part of a LocalControl: a reservation that is on, an unsupported property, or a value that is not
+-- allowed.
 abbrev pub control_fault : List ℕ → ControlPart → Option ErrorNumber
 control_fault source (controls.Mode mode) = None
 control_fault source (controls.ReservedValue is_on) = if is_on then Some NotServed else None

@@ -1,5 +1,6 @@
 -- A transaction: a request's actions and their commands, in order (RFC 3525, section 8.2.2). After an error, nothing
--- more is executed, unless the command that failed is optional.
+-- more is executed, with two exceptions. An optional command that fails does not stop the transaction, and a command
+-- that fails for one name is still tried for its other names.
 use Rattle.std.specs.Prelude.{ℕ, Bool, ◌&&◌, true, false, not, List, [], ◌∷◌, ◌++◌, Option}
 use Rattle.std.specs.Prelude.{None, Result, Ok, Err, if◌then◌else◌}
 use Rattle.std.specs.List.{fold}
@@ -24,8 +25,8 @@ use Rattle.mg_commands.specs.Name.{written_as, written_name}
 use Rattle.mg_commands.specs.ContextProperties.{context_outcome, action_fault}
 use Rattle.mg_commands.specs.Outcome.{CommandOutcome, Trial, outcome, trial_of}
 
--- The state of a transaction: the gateway, the action's context, the termination that the action's first Add created,
--- and the reply's items so far. A flag says whether an error has stopped the transaction.
+-- The state of a transaction: the gateway, the action's context, the first termination that an Add of the action
+-- created, and the reply's items so far. A flag says whether an error has stopped the transaction.
 pub record TransactionState : Type 0 where
   pub gateway : Gateway
   pub target : Target
@@ -89,7 +90,7 @@ id_of targets.Null = contexts.Null
 id_of targets.New = contexts.Choose
 id_of (targets.Number n) = contexts.Number n
 
--- The state after the properties of an action are applied and answered.
+-- The state after the properties of an action are applied and answered, or rejected.
 abbrev pub after_properties : TransactionState → Result (Gateway × List Item) ErrorNumber
     → TransactionState
 after_properties s (Ok p) = record s { gateway = p.0; items = s.items ++ p.1 }
@@ -104,7 +105,7 @@ with_properties source a s =
     if s.has_stopped then s
     else after_properties s (context_outcome source s.made a.properties s.gateway s.target)
 
--- The state after the last item of an action, which has the context's number.
+-- The state after the last item of an action, which names the context.
 abbrev pub closed : TransactionState → TransactionState
 closed s = with_item s (replies.Action (id_of s.target))
 

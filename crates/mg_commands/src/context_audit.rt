@@ -11,7 +11,7 @@ use crate::named_member::NamedMember;
 use mg_engine::{Association, Engine};
 use mg_reply::{Item, Reply};
 
-/// Returns the item that reports which of two members hears the other.
+/// Returns the item that reports who hears whom of two members.
 fn pair_item(
     second_hears: bool,
     first_hears: bool,
@@ -40,7 +40,7 @@ fn audit_pair(engine: &Engine, first: &NamedMember, second: &NamedMember) -> Ite
     pair_item(second_hears, first_hears, first, second)
 }
 
-/// For a member and each member that entered later, reports which of the two hears the other.
+/// For a member and each member that entered later, reports who hears whom.
 fn put_pairs_of(engine: &Engine, first: &NamedMember, later: &[NamedMember], reply: &mut Reply)
     requires first { IsOnSeat engine.now.rooms first.now }
     requires later { All (IsOnSeat engine.now.rooms) later.now }

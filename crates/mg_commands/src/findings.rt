@@ -13,8 +13,8 @@ use mg_text::{AuditWord, ControlPart, ErrorNumber};
 pub struct Findings {
     /// The command's parameters, up to the fault.
     pub parameters: CommandParameters,
-    /// The first fault in a property or a stream's number, if any. A faulty descriptor outranks this fault, even if the
-    /// descriptor comes later.
+    /// The first fault in a stream's number or in a LocalControl, if any. A faulty descriptor outranks this fault, even
+    /// if the descriptor comes later.
     pub fault: Option<ErrorNumber>,
 }
 

@@ -11,9 +11,9 @@
 //! assert!(rt; write_reply(&reply, &mut text).is_ok());
 //! ```
 //!
-//! Commands are tried in order, action by action, up to the first command that fails. Commands that were not tried are
-//! not reported. A rejected command leaves the engine unchanged. An action's Topology and ContextAudit are processed
-//! after its commands, unless a command failed and ended the action.
+//! Commands are tried in order, action by action, up to the first non-optional command that fails. Commands that were
+//! not tried are not reported. Except for a command on `*`, a rejected command leaves the engine unchanged. An action's
+//! Topology and ContextAudit are processed after its commands, unless a command failed and ended the action.
 //!
 //! A Modify, Subtract or AuditValue on `*` (RFC 3525, section 6.2.2) is tried on each current member of the action's
 //! context, in order of entry. The reply has an item for each member. An error for one member does not stop the others,

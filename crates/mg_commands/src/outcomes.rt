@@ -39,7 +39,7 @@ fn served_at(
     }
 }
 
-/// Returns the result of a command after which the termination is in a new context.
+/// Returns the result of a command that put the termination into a context.
 fn entered_at(engine: &Engine, termination: &Record, descriptors: ReplyDescriptors) -> Served
     ensures value { (w : Gateway) → HasStats engine.now w termination.now →
         result ≡ entered_at w termination.now descriptors }

@@ -5,6 +5,6 @@ use mg_engine::Target;
 pub struct Progress {
     /// The action's context so far.
     pub target: Target,
-    /// The termination that the action's first Add created, if any.
+    /// The first termination that an Add of the action created, if any.
     pub made: Option<u32>,
 }

@@ -39,7 +39,7 @@ fn same_control(source: &[u8], a: &ControlPart, b: &ControlPart) -> bool
     }
 }
 
-/// Returns whether two parts have the same word in the same stream, which is not allowed.
+/// Returns whether one part repeats the other, which is not allowed. A word of a stream counts only within its stream.
 fn is_same_part(source: &[u8], a: Part, b: Part) -> bool
     ensures value { result ≡ is_same_part source.now a b }
 {
@@ -66,7 +66,7 @@ fn is_single(source: &[u8], part: &ControlPart) -> bool
     }
 }
 
-/// Returns whether a part of a LocalControl has already occurred.
+/// Returns whether a part of a LocalControl has already occurred and must not be repeated.
 pub fn appeared_in_control(source: &[u8], part: &ControlPart, before: &[ControlPart]) -> bool
     ensures value { result ≡ list_any (same_control source.now part.now) before.now }
 {

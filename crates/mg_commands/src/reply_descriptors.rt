@@ -26,8 +26,8 @@ fn is_offer(setting: &Option<MediaSetting>) -> bool
 }
 
 impl ReplyDescriptors {
-    /// Returns the descriptors after an Add, Modify or Move: the descriptors that the command audits, and the Local
-    /// that was set.
+    /// Returns the descriptors after an Add, Modify or Move: the descriptors that the command audits and, if it set a
+    /// non-blank Local, this Local.
     pub fn after(parameters: &CommandParameters) -> ReplyDescriptors
         ensures value { result ≡ descriptors_after parameters.now }
     {

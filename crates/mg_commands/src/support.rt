@@ -62,8 +62,8 @@ pub fn jitter_of(source: &[u8], value: Option<PropertyValue>) -> Option<u16>
     }
 }
 
-/// Returns the fault in a part of a LocalControl, if any: a reservation, an unsupported property, or a value that is
-/// not allowed.
+/// Returns the fault in a part of a LocalControl, if any: a reservation that is on, an unsupported property, or a value
+/// that is not allowed.
 fn control_fault(source: &[u8], part: &ControlPart) -> Option<ErrorNumber>
     ensures value { result ≡ control_fault source.now part.now }
 {

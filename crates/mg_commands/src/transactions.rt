@@ -204,7 +204,8 @@ fn id_of(target: Target) -> ContextId
     }
 }
 
-/// Tries an action: its commands, and then its properties, unless a command failed.
+/// Tries an action, unless it is rejected as a whole: its commands and then, unless a non-optional command failed, its
+/// properties.
 ///
 /// Returns whether the action was completed.
 #[tactic(auto, unfolding(crate::specs::aids::ByActions::with_action))]
@@ -250,8 +251,8 @@ fn try_actions(engine: &mut Engine, source: &[u8], actions: &[Action], reply: &m
 ///
 /// Commands are tried in order, up to the first command that fails. A command for all members (`*`) is tried on every
 /// member, and fails if it fails for any member. If an optional command (`O-`) fails, the next commands are still
-/// tried. When an action's commands have run, its triples are applied, all or none, and then its audit is answered. An
-/// action that is rejected as a whole, before or after its commands, ends the request even if its commands are
+/// tried. Unless a command has ended the action, its triples are then applied, all or none, and its audit is answered.
+/// An action that is rejected as a whole, before or after its commands, ends the request even if its commands are
 /// optional.
 pub fn transaction(engine: &mut Engine, source: &[u8], request: &Request, reply: &mut Reply)
     requires proper { request_is_proper source.now request.now ≡ true }

@@ -18,7 +18,8 @@ use Rattle.mg_core.specs.Parsed.{IsReadingOf, ReadingsAreUnique}
 use Rattle.mg_core.specs.World.{World}
 use Rattle.mg_core.specs.aids.Steps.{refusal_of}
 
--- The remaining room and the text written so far add up to the same total after every write.
+-- After every write that fits in the room, the remaining room and the length of the text so far add up to the same
+-- total.
 pub appended-total : (w : Written) (a : List ℕ) → length a ≤ w.room →
     (appended w a).room + length (appended w a).text ≡ w.room + length w.text
 appended-total w a le = omega (arith, length-append w.text a)

@@ -39,7 +39,8 @@ some_cons : (b : Bool) (x y : Listener) (o u : Option Listener) → cond b (Some
 some_cons true x y o u n f = cc
 some_cons false x y o u n f = f n
 
--- If neither the first `i` listeners nor the next one have the number, the first `i + 1` listeners don't have it.
+-- If none of the first `i` listeners has the number, and the next one doesn't either, none of the first `i + 1`
+-- listeners has it.
 pub none_more : (xs : List Listener) (n i : ℕ) (x : Listener) → i < length xs → listener_at (take i xs) n ≡ None →
     x ≡ get_or xs i x → x.number == n ≡ false → listener_at (take (suc i) xs) n ≡ None
 none_more [] n i x lt none e f = refl

@@ -80,7 +80,7 @@ mark_text line true is n counted =
     let none : ticks_in line ≡ None = rw same refl in
     absurd (cc (none, counted))
 
--- A line that counts ticks is not the line behind which they are counted.
+-- A line that counts ticks is not the line after which they are counted.
 pub counts_no_mark : (c : Bool) (line : List ℕ) (n : ℕ) → counted_in c line ≡ Some n → is_mark line ≡ false
 counts_no_mark true line n is = mark_text line (is_mark line) refl n is
 counts_no_mark false line n is = absurd (cc is)

@@ -235,7 +235,7 @@ changed_steps event old mid new kept before after n k m a b l r was is counts h 
       follows_after shown new after next r (subst (λ (x : CoreState). StandsFor x next) (sym is) stands) reported.1,
     )
 
--- Each followed world takes the step of an event, although its datagrams were not all written or memory ran out.
+-- Each followed world takes the step of an event, even if its datagrams were not all written or memory ran out.
 pub cut_steps : (event : Event) (old new : CoreState) (kept after : Option (List Listener)) (n m : ℕ)
     (a b : Option (List ℕ)) (e : EventFault) →
     Leads StandsFor old new (λ w next. EventRan shows.Sent event w next n m a b (Err e)) → (shown : Shown) →

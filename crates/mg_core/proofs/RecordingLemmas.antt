@@ -41,7 +41,7 @@ none_whole partial (b ∷ bs) h =
     let two = and_parts (is_not 10 b) (list_all (is_not 10) bs) h in
     rw (not-true (eqb b 10) two.0) (none_whole (partial ++ b ∷ []) bs two.1)
 
--- A line without carriage returns is returned unchanged.
+-- `without_return` does not change a line without carriage returns.
 pub whole_line : (line : List ℕ) → list_all (is_not 13) line ≡ true → without_return line ≡ line
 whole_line line h =
     rw (not-true (eqb (slice_index line (length line - 1)) 13) (at_passes (is_not 13) line (length line - 1) refl h))

@@ -1,4 +1,4 @@
--- How far a script was read that is resumed, its last line, and the result.
+-- How far a resumed script was read, its last line, and the result.
 use Rattle.std.proofs.Common.{◌≡◌, ◌≢◌, ℕ, ◌+◌, ◌≤◌, Bool, true, false, List, [], ◌∷◌, ◌++◌, length, eqb, Option, Some, Result, Ok, Err, refl, sym, ap, subst, ◌∙◌, append_assoc, length-append, arith, inl, inr, ◌⊎◌}
 use Rattle.std.proofs.lemmas.Bool.{eqb-true, ne_eqb, true≢false}
 use Rattle.std.proofs.lemmas.List.{append-nil}
@@ -38,7 +38,7 @@ pub record Far (input remaining : Option (List ℕ)) (partial : List ℕ) (count
   pub split : (ended : Bool) (more : List ℕ) → lines_of ended (text ++ more) ≡ lines ++ lines_after ended partial more
   pub counted : count ≡ length lines
 
--- The text was read so far, and its lines satisfy `Old`.
+-- The text was read this far, and its lines satisfy `Old`.
 abbrev pub Reaches : (Old : List (List ℕ) → Type 0) → (input remaining : Option (List ℕ)) → List ℕ → ℕ → Type 0
 Reaches Old input remaining partial count =
     (lines : List (List ℕ)) × Far input remaining partial count lines × Old lines
@@ -258,7 +258,7 @@ pub not_err : {A E : Type 0} (r : Result A E) (X : Type 0) → is_err r ≡ fals
 not_err (Ok value) X none h = h
 not_err (Err e) X none h = absurd (true≢false none)
 
--- The text was read so far. At its end, the follower was not done.
+-- The text was read this far. At its end, the follower was not done.
 abbrev pub Waits : {F : Type 0} → (F → Bool) → (F → List Note → Type 0) → (Old : List (List ℕ) → Type 0)
     → (input remaining : Option (List ℕ)) → List ℕ → ℕ → Type 0
 Waits done Follows Old input remaining partial count =

@@ -1,4 +1,4 @@
--- Counted ticks. When a gateway starts, it appends the line `# counted ticks` to its journal. Behind this line, a line
+-- Counted ticks. When a gateway starts, it appends the line `# counted ticks` to its journal. After this line, a line
 -- such as `ticks 12` is read as twelve lines `tick`. Anywhere else, for example in a recording, it is a bad line.
 use Rattle.std.specs.Prelude.{◌≡◌, ℕ, ◌^◌, ◌<◌, ◌&&◌, ◌||◌, not, Bool, true, false, List, [], ◌∷◌, ◌++◌, codes, drop, take}
 use Rattle.std.specs.Prelude.{decimal, replicate, Option, Some, None, if◌then◌else◌}
@@ -10,7 +10,7 @@ use Rattle.mg_core.specs.declared.event.Event.{Event}
 use Rattle.mg_core.specs.declared.event.Event.TheVariants.{Tick}
 use Rattle.mg_core.specs.Script.{events_of}
 
--- Whether ticks are counted behind this line.
+-- Whether ticks are counted after this line.
 abbrev pub is_mark : List ℕ → Bool
 is_mark line = bytes_eq line (codes "# counted ticks")
 

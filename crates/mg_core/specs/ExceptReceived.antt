@@ -29,8 +29,8 @@ pub record AgreeExceptReceived (a b : World) : Type 0 where
 abbrev pub without_rtp : List Event → List Event
 without_rtp events = filter (λ e. not (is_media e)) events
 
--- If two worlds agree except for what was received, they still agree in this way after the same
--- events, even if only the first world receives the RTP datagrams.
+-- Suppose two worlds agree except for what was received. Then they still agree in this way after the same events, even
+-- if only the first world receives the RTP datagrams.
 abbrev pub RtpChangesSpeechOnly : Type 0
 RtpChangesSpeechOnly =
     (a b x y : World) (events : List Event) (s t : List Sent)
@@ -41,7 +41,7 @@ RtpChangesSpeechOnly =
 abbrev pub depths_in : World → List ℕ
 depths_in w = map (λ s. depth_of s.play) w.gateway.media
 
--- Suppose two gateways started with the same configuration and have the same events, but only one of them received RTP
+-- Suppose two gateways started with the same configuration and had the same events, but only one of them received RTP
 -- datagrams. Then their worlds agree except for what was received. Their play lists also have the same depths, because
 -- only commands set a depth.
 abbrev pub RtpChangesSpeechOnlyInHistories : Type 0

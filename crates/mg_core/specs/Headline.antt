@@ -55,7 +55,8 @@ TotalIsRecomputed state context i answer =
     → HasHistory config events sent w state → answer ≡ total_at w.gateway context i
 
 -- After any sequence of events, the packets of a tick are exactly the recomputed ones, in order of the terminations'
--- numbers. Each byte of a payload encodes the sum, saturated once, of everyone whose flow to the listener is open.
+-- numbers. Except in Loopback, each byte of a payload encodes the sum, saturated once, of everyone whose flow to the
+-- listener is open.
 abbrev pub PacketsAreRecomputed : CoreState → List Datagram → Type 0
 PacketsAreRecomputed state outbox =
     (config : Config) (events : List Event) (sent : List Sent) (w : World)

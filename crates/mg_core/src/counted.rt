@@ -41,7 +41,7 @@ pub(crate) fn ticks_in(line: &[u8]) -> Option<u64>
     count_of(digits)
 }
 
-/// Returns whether ticks are counted behind this line.
+/// Returns whether ticks are counted after this line.
 pub(crate) fn is_mark(line: &[u8]) -> bool
     ensures value { result ≡ is_mark line.now }
 {

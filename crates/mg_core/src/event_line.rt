@@ -17,7 +17,8 @@ const DIGITS_ROOM: usize = 2 * DATAGRAM_LIMIT;
 /// The maximum length, in bytes, of the text around a datagram's digits: a peer, a space and a line feed.
 const DATAGRAM_START: usize = 2 + PEER_LIMIT;
 
-/// The maximum length of a line, in bytes: `rtp`, two spaces, a port, a peer, and the digits of a datagram.
+/// The maximum length of a line, in bytes: `rtp`, a port, a peer, the digits of a datagram, three spaces and a line
+/// feed.
 const LINE_ROOM: usize = 5 + PORT_LIMIT + DATAGRAM_START + DIGITS_ROOM;
 
 /// The script line for an event. It is built here and then written as a whole. In contracts, it appears as its text.
@@ -56,7 +57,7 @@ fn push_datagram(source: Peer, bytes: &[u8], digits: &mut [u8], out: &mut Bytes)
 }
 
 impl EventLine {
-    /// Creates an empty line. Fails only if the allocation fails. No other call allocates.
+    /// Creates an empty line. Fails only if an allocation fails. No other call allocates.
     pub fn new(alloc: Global) -> Result<Self, AllocError>
         ensures value { IfOk result (λ line. line ≡ []) }
     {

@@ -38,8 +38,8 @@ pub trait Follower {
     /// Handles consecutive ticks. `core` is the gateway's state before the first of them. Ticks don't change who hears
     /// whom.
     ///
-    /// If there are ticks to report, this is called before the next line of another kind, before there would be 2^64
-    /// ticks, and at the end of the script.
+    /// If there are ticks to report, this is called before the next line of another kind and at the end of the script.
+    /// It is also called before there would be 2^64 ticks.
     fn ticks(&mut self, core: &Core, count: u64) -> Result<(), Stopped>
         ensures value { (start : Self) (config : Config) (notes : List Note) →
             follows start self.old config notes → HasRun config notes core.now.state →

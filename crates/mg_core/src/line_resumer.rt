@@ -148,7 +148,7 @@ impl LineResumer {
         if self.counts { ticks_in(line) } else { None }
     }
 
-    /// Returns whether ticks are counted behind a line.
+    /// Returns whether ticks are counted after a line.
     fn counts_after(&self, line: &[u8]) -> bool
         ensures value { result ≡ (self.now.counts || is_mark line.now) }
     {

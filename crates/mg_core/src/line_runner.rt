@@ -40,9 +40,9 @@ fn watched_for(alloc: Global, shown: Shown) -> Result<Option<Watched>, AllocErro
     }
 }
 
-/// Creates the buffers of a runner: one for the longest line, and one for the terminations.
+/// Creates the buffers of a runner: one for the longest line and, if changes are shown, one for the terminations.
 ///
-/// Fails only if the allocation fails.
+/// Fails only if an allocation fails.
 fn outputs(alloc: Global, shown: Shown) -> Result<(Bytes, Option<Watched>), AllocError>
     ensures output { IfOk result (λ (output, watched). output ≡ record { text = []; room = OUTPUT_LIMIT }) }
     ensures watched { (config : Config) →
@@ -82,7 +82,7 @@ impl LineRunner {
         })
     }
 
-    /// Handles a control datagram, and writes the line for its answer.
+    /// Handles a control datagram and, if it is answered, writes the line for the answer.
     #[tactic(auto, using(crate::proofs::AnswerLemmas::totals))]
     fn take_control<W: Write>(
         &mut self,

@@ -69,7 +69,7 @@ impl Model for Core {
 
 /// Creates the store of kept replies, the reply under construction, and the buffer for answers.
 ///
-/// Fails only if the allocation fails.
+/// Fails only if an allocation fails.
 fn no_replies(alloc: Global) -> Result<(Kept, Reply, Bytes), AllocError>
     ensures kept { IfOk result (λ (kept, reply, answer). kept ≡ []) }
     ensures answer { IfOk result (λ (kept, reply, answer). answer ≡ record { text = []; room = ANSWER_LIMIT }) }
@@ -82,7 +82,7 @@ fn no_replies(alloc: Global) -> Result<(Kept, Reply, Bytes), AllocError>
 impl Core {
     /// Starts a gateway with this configuration.
     ///
-    /// Allocates all the memory that the gateway keeps. Fails if the configuration is invalid or the allocation fails.
+    /// Allocates all the memory that the gateway keeps. Fails if the configuration is invalid or an allocation fails.
     pub fn new(alloc: Global, config: Config) -> Result<Self, StartFault>
         ensures bad { (result ≡ Err StartFault.BadConfig) ↔ ¬ IsValidConfig config }
         ensures started { IfOk result (λ core. (core.answer ≡ []) × (core.outbox ≡ []) ×

@@ -14,14 +14,15 @@ use mg_engine::Config;
 use std::alloc::Global;
 use std::io::{Read, Write};
 
-/// Runs a whole script on a new gateway, and writes a line for each answer and each packet.
+/// Runs a whole script on a new gateway. Writes a line for each answer and each packet and, if changes are shown, for
+/// each change.
 ///
 /// The lines for an event are written before any more input is read. `Ok` means that all of the input is a script, and
 /// that exactly the datagrams sent in response to its events were written. The result counts the script's lines, events
 /// and datagrams.
 ///
-/// If the run failed, it stopped at one line. All earlier lines were run, and their output was written completely
-/// before any more input was read. The fault says why the run stopped:
+/// If the run failed, all lines before the failure were run, and their output was written completely before any more
+/// input was read. The fault says why the run stopped:
 /// - `Script`: carries the number of the first bad line; the lines before it were run.
 /// - `Read`: the lines that had been read completely were run, and no others. A run also ends with `Read` after
 ///   4,294,967,295 reads.

@@ -86,7 +86,7 @@ pub fn retransmissions_are_answered_alike()
 
 /// A retransmitted request gets the same answer until its reply is acknowledged or 32 other replies have been kept.
 ///
-/// After that, the request is run again. No two kept replies answer the same request.
+/// After that, the request is run again if it is retransmitted. No two kept replies answer the same request.
 pub fn replies_persist()
     ensures last { RepliesPersist }
     ensures newest { NewReplyIsNewest }
@@ -102,8 +102,9 @@ pub fn replies_persist()
 
 /// The terminations and contexts are consistent after any sequence of events.
 ///
-/// Terminations and contexts are within the limits; no two have the same number, slot or seat; members and records
-/// agree. Terminations are in order of their numbers, so a tick sends its packets in that order.
+/// Terminations and contexts are within the limits. No two have the same number, slot or room, and no two members of a
+/// context have the same seat. Members and records agree. Terminations are in order of their numbers, so a tick sends
+/// its packets in that order.
 pub fn worlds_are_consistent()
     ensures theorem { WorldsAreConsistent }
 {
@@ -148,8 +149,8 @@ pub fn unheard_changes_nothing()
 ///
 /// Suppose two gateways receive the same control datagrams and ticks, but only one of them receives RTP datagrams. Then
 /// both gateways have the same terminations, contexts and topology, and keep replies to the same requests. They can
-/// differ only in play lists (but not in their depths), current frames, counts of received or concealed frames, and the
-/// texts of kept replies.
+/// differ only in play lists (but not in their depths), current frames, the texts of kept replies, and the counts of
+/// RTP datagrams, received packets and concealed frames.
 pub fn rtp_changes_speech_only()
     ensures worlds { RtpChangesSpeechOnly }
     ensures histories { RtpChangesSpeechOnlyInHistories }
@@ -194,15 +195,15 @@ pub fn events_are_counted()
 
 /// A recording is a script of its events.
 ///
-/// The line for an event is read as that event, and any other line is read as a comment. Wherever a recording is
-/// truncated, its complete lines are a script of its first events.
+/// The line for an event is read as that event, and the other lines of a recording are read as comments. Wherever a
+/// recording is truncated, its complete lines are a script of its first events.
 pub fn recordings_are_read()
     ensures theorem { RecordingsAreRead }
     ensures cut { CutRecordingsAreRead }
 {}
 
-/// The line with which a gateway appends ticks to its journal is read as these ticks. A script in which no line counts
-/// ticks is read unchanged.
+/// Where ticks are counted, the line with which a gateway appends ticks to its journal is read as these ticks. A script
+/// in which no line counts ticks is read unchanged.
 pub fn counted_ticks_are_read()
     ensures line { CountsAreTicks }
     ensures others { OtherScriptsStay }
@@ -215,11 +216,11 @@ pub fn notes_have_events()
 
 /// The headline theorem: the parts of the headline that go beyond the contracts of a core's calls.
 ///
-/// The clauses `headline` and `packets` of a [`Core`](crate::Core) say that after any sequence of events, what the core
-/// returns and sends equals what is recomputed from the resulting world. This theorem states the rest. The events
-/// determine that world and the content of each packet. Packets are sent in order of termination number. A rejected
-/// command changes nothing, not even a later packet. No termination hears itself, and an isolated participant is not
-/// heard.
+/// The clauses `headline` and `packets` of a [`Core`](crate::Core) compare what it returns and sends with what is
+/// recomputed from the resulting world. After any sequence of events, the two are equal. This theorem states the rest.
+/// The events determine that world and the content of each packet. Packets are sent in order of termination number. A
+/// rejected command changes nothing, not even a later packet. No termination hears itself, and an isolated participant
+/// is not heard.
 pub fn headline()
     ensures world { EventsDetermineOutcome }
     ensures packets { PayloadsAreMixes }

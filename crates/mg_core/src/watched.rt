@@ -41,7 +41,7 @@ impl Model for Watched {
 }
 
 impl Watched {
-    /// Creates a store without terminations. Fails only if the allocation fails. No other call allocates.
+    /// Creates a store without terminations. Fails only if an allocation fails. No other call allocates.
     pub fn new(alloc: Global) -> Result<Self, AllocError>
         ensures value { IfOk result (λ x. x ≡ []) }
     {

@@ -59,7 +59,7 @@ impl Date {
         text
     }
 
-    /// Returns the time that is `millis` milliseconds earlier.
+    /// Returns the time that is `millis` milliseconds earlier, but not before 1970.
     pub fn before(self, millis: u64) -> Date {
         Date {
             millis: self.millis.saturating_sub(millis),

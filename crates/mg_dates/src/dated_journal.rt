@@ -32,14 +32,15 @@ const SEAL: usize = 9 + END;
 /// The capacity of the buffer, in bytes.
 const TEXT_ROOM: usize = LINES_ROOM + TEXT_LIMIT + MARKS + SEAL;
 
-/// Lines without a message get a new date if the last date is at least this old, in milliseconds. A date gets a seal if
-/// the last seal is at least this old.
+/// Lines without a message get a new date if the last date is at least this old, in milliseconds, or the clock was set
+/// back. The same age of the last seal decides whether a date gets a seal.
 const MAX_AGE: u64 = 60_000;
 
 /// A journal that adds dates: before the first lines, before the first message of each second, and before ticks if the
-/// last date is a minute old.
+/// last date is a minute old or the clock was set back.
 ///
-/// A date is preceded by a seal (`mg_chain`): before the first lines, and then once a minute.
+/// A seal (`mg_chain`) precedes the first date, and then a date about once a minute. A date that is earlier than that
+/// of the last seal gets a seal, too.
 ///
 /// A line that begins with `control` is a message; all other lines are `ticks` with a number.
 #[derive(Drop)]
@@ -168,7 +169,8 @@ impl<'a, J: Journal, C: Clock> DatedJournal<'a, J, C> {
         self.journal.append(lines, durability)
     }
 
-    /// Appends lines. Puts a date before them if they need one, and a seal before the date if the date needs one.
+    /// Appends lines. Puts a date before them if they need one, and a seal before the date if the date needs one. Adds
+    /// neither if the clock can't be read, the year is after 9999, or the lines are too long.
     pub fn append(&mut self, lines: &[u8], durability: Durability) -> Result<(), AppendFault>
         requires line_feed { EndsInLineFeed lines.now }
         ensures value { AppendsDated lines.now durability self.old self.new result }

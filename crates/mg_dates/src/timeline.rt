@@ -8,7 +8,8 @@ use crate::date::Date;
 use crate::date_text::date_in;
 use mg_core::{Core, Event, Follower, Stopped};
 
-/// The number of ticks that count as missed if the clock was set back: one second's worth.
+/// The number of ticks that are taken as missed if the clock was set back, because the real number is unknown: one
+/// second's worth.
 const LOST: u64 = 50;
 
 /// The length of a tick, in milliseconds.

@@ -80,7 +80,7 @@ oneway_is Isolate h = absurd (cc h)
 oneway_is Oneway h = refl
 oneway_is Bothway h = absurd (cc h)
 
--- Some member matches both terms of a triple if and only if its two masks share a seat.
+-- The triple by terms overlaps if and only if the triple by seats does.
 module _ (w : Registry) (c : ℕ) (members : List ℕ) (x : TopologyTriple) (y : Triple)
     (law : IsTrue (overlaps y) ↔ Overlaps y) (m : IsMatched w c members x y) where
   by_terms : terms.overlaps members x ≡ true → overlaps y ≡ true

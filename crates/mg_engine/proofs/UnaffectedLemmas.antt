@@ -17,8 +17,8 @@ use Rattle.mg_engine.proofs.OrderLemmas.{done_gives, other_media}
 
 -- ## A context whose records and media are unchanged
 
--- These definitions say who hears whom, and whose speech flows to whom. They use only the records of the two
--- terminations and the last word on the pair.
+-- These definitions say who hears whom, whose speech flows to whom, and what a member adds to a total. They use only
+-- the records of the terminations, the last word on the pair, and the member's media.
 abbrev share : Option Record → Option Record → ℕ → ℕ → Bool
 share r q a b = is_some r && (is_some q && (eqb (context_in r) (context_in q) && not (eqb a b)))
 

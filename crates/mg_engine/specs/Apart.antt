@@ -16,8 +16,8 @@ use Rattle.mg_engine.specs.Tick.{all_played, packet_of}
 abbrev pub but_received : Stats → Stats
 but_received s = record s { pr = 0; or_ = 0 }
 
--- The media as they would be if their termination had received nothing: no frame waits, none is played, and no packet
--- was received.
+-- The media without what their termination received: the play list is a new one, the frame is silent, and no packet was
+-- received.
 abbrev pub without_arrivals : TerminationMedia → TerminationMedia
 without_arrivals s =
     record s { play = first_list; frame = silence; stats = but_received s.stats }

@@ -23,7 +23,7 @@ triple_limit = 1200
 abbrev pub barred_triple : TopologyTriple
 barred_triple = record { first = Barred; second = Barred; association = Isolate }
 
--- The terminations that a term matches: all members, or the termination that the term names.
+-- The terminations that a term matches: all members, the termination that the term names, or none.
 abbrev pub matched : List ℕ → TripleTerm → List ℕ
 matched members Every = members
 matched members (Number n) = n ∷ []
@@ -39,7 +39,7 @@ names_others members (Number n) = not (has members n)
 names_others members Stranger = true
 names_others members _ = false
 
--- Whether a Oneway triple has a member that matches both terms.
+-- Whether a triple is Oneway and some member matches both of its terms.
 abbrev pub overlaps : List ℕ → TopologyTriple → Bool
 overlaps members x =
     is_oneway x.association && list_any (has (matched members x.second)) (matched members x.first)

@@ -22,7 +22,7 @@ pub struct Config {
     pub first_termination: u32,
     /// The number of the first context.
     pub first_context: u32,
-    /// The SSRC of termination n is this number plus n.
+    /// The SSRC of termination n is this number plus n, modulo 2^32.
     pub ssrc: u32,
     /// The sequence number of a termination's first packet.
     pub sequence: u16,
@@ -57,8 +57,9 @@ impl Config {
 
     /// Returns whether a gateway can start with this configuration.
     ///
-    /// The media ports must be even and at most 65535. There must be 1 to [`TERMINATIONS`] of them, and the control
-    /// port must not be one of them. The numbers of the first termination and the first context must be in range.
+    /// The media ports must be even, not 0 and at most 65535. There must be 1 to [`TERMINATIONS`] of them, and the
+    /// control port must be neither 0 nor one of them. The numbers of the first termination and the first context must
+    /// be in range.
     pub fn is_sound(&self) -> bool
         ensures value { IsTrue result ↔ IsValidConfig self.now }
     {

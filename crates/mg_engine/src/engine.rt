@@ -107,7 +107,7 @@ impl Model for Engine {
     ghost invariant = { IsWholeEngine };
 }
 
-/// Creates idle media for `slots` slots. Fails only if the allocation fails.
+/// Creates idle media for `slots` slots. Fails only if an allocation fails.
 fn idle_media(alloc: Global, slots: u16) -> Result<Vec<HeldMedia>, AllocError>
     ensures value { IfOk result (λ media. media.items ≡ replicate slots idle) }
 {
@@ -120,7 +120,7 @@ fn idle_media(alloc: Global, slots: u16) -> Result<Vec<HeldMedia>, AllocError>
 
 /// Creates the tables of a gateway without terminations.
 ///
-/// The tables hold the flows, the slots by place, the frames and totals, and the shared payloads. Fails only if the
+/// The tables hold the flows, the slots by place, the frames and totals, and the shared payloads. Fails only if an
 /// allocation fails.
 fn empty_tables(alloc: Global) -> Result<(FlowTable, Seating, Sums, Shares), AllocError>
     ensures flows { IfOk result (λ (flows, seating, sums, shares). table.StandsFor flows []) }
@@ -139,7 +139,7 @@ fn empty_tables(alloc: Global) -> Result<(FlowTable, Seating, Sums, Shares), All
 impl Engine {
     /// Starts a gateway without terminations.
     ///
-    /// Allocates all memory; no other call allocates. Fails if the configuration is invalid or the allocation fails.
+    /// Allocates all memory; no other call allocates. Fails if the configuration is invalid or an allocation fails.
     pub fn new(alloc: Global, config: Config) -> Result<Engine, StartFault>
         ensures bad { (result ≡ Err StartFault.BadConfig) ↔ ¬ IsValidConfig config }
         ensures start { IfOk result (λ engine. StandsFor engine (start_of config)) }
@@ -543,7 +543,8 @@ impl Engine {
         }
     }
 
-    /// Returns the counters of the termination that holds a slot or held it last, or `None` if there is no such slot.
+    /// Returns the counters of the termination that holds a slot or held it last. They are 0 if no termination has held
+    /// the slot. Returns `None` if there is no such slot.
     pub fn slot_stats(&self, slot: u8) -> Option<Stats>
         ensures value { result ≡ option_map (λ m. m.stats) (slice_get self.now.media slot) }
     {
@@ -724,7 +725,8 @@ impl Engine {
 
     /// Appends a packet with the sound that the member at a place hears.
     ///
-    /// Listeners that hear the same talkers and use the same law share a payload, which is computed once.
+    /// Listeners in a room that hear the same talkers and use the same law share a payload, if it is among the room's
+    /// newest eight.
     fn put_heard(&mut self, listener: &Record, place: Place, law: Law, outbox: &mut Outbox)
         requires place { IsOnPlace self.old.rooms listener.now.number listener.now place }
         requires listens { IsTrue (listens listener.now.mode) }
@@ -756,7 +758,8 @@ impl Engine {
         push_payload(outbox, law, &frame);
     }
 
-    /// Returns a room's total, minus the listener's own frame and the frames of the talkers silenced for the listener.
+    /// Returns a room's total minus the listener's own frame, if the listener talks, and the frames of the talkers
+    /// silenced for the listener. The result is saturated once.
     fn mix(&mut self, listener: &Record, place: Place) -> Frame
         requires place { IsOnPlace self.old.rooms listener.now.number listener.now place }
         requires listens { IsTrue (listens listener.now.mode) }

@@ -13,12 +13,12 @@
 //! other. The engine keeps the frame of each termination and a total for each context, in [`Sums`]. It counts each row
 //! of 160 samples that is added to a total, subtracted from one, or written ([`Engine::work`]).
 //!
-//! A tick costs two rows for each termination that talks: its old frame is subtracted from the total, and its new frame
-//! is added. A packet costs one row (the total without the listener itself), plus one for each talker that the topology
-//! silences for the listener. In Loopback a termination is sent its own frame, which doesn't cost any rows. Two
-//! listeners in a context share a payload if they hear the same talkers and use the same law. The payload must be among
-//! the context's newest eight. `specs/Work.antt` has the proved bound for a tick. An edit costs at most four rows, and
-//! an RTP datagram costs none.
+//! A tick costs at most two rows for each termination that talks: its old frame is subtracted from the total, and its
+//! new frame is added. A packet whose payload is not shared costs one row (the total without the listener itself), plus
+//! one for each talker that the topology silences for the listener. In Loopback a termination is sent its own frame,
+//! which doesn't cost any rows. Two listeners in a context share a payload if they hear the same talkers and use the
+//! same law. The payload must be among the context's newest eight. `specs/Work.antt` has the proved bound for a tick.
+//! An edit costs at most four rows, and an RTP datagram costs none.
 //!
 //! [`Engine::skip`] runs many ticks without packets. Once all play lists are idle, the remaining ticks take one step.
 //! The cost of that step grows only with the number of terminations.

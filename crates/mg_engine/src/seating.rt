@@ -35,7 +35,7 @@ fn index_of(place: Place) -> usize
 }
 
 impl Seating {
-    /// Creates a table without members. Fails only if the allocation fails.
+    /// Creates a table without members. Fails only if an allocation fails.
     pub fn new(alloc: Global) -> Result<Self, AllocError>
         ensures value { IfOk result (λ seating. seating ≡ replicate place_count 0) }
     {

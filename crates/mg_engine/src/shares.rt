@@ -29,7 +29,7 @@ impl Model for Shares {
 }
 
 impl Shares {
-    /// Creates an empty table of shares. Fails only if the allocation fails.
+    /// Creates an empty table of shares. Fails only if an allocation fails.
     pub fn new(alloc: Global) -> Result<Self, AllocError>
         ensures value { IfOk result (λ shares. shares ≡ replicate context_limit []) }
     {
@@ -57,7 +57,7 @@ impl Shares {
         self.rooms[usize::from(room)].find(talkers, law)
     }
 
-    /// Adds a share to a room.
+    /// Adds a share to a room, unless the room's list is full.
     pub fn put(&mut self, room: u8, share: Share)
         requires room { room < context_limit }
         ensures value { self.new ≡ with_share self.old room share }

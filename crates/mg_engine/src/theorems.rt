@@ -124,10 +124,11 @@ pub fn agreement_lasts()
     one_reading(b"");
 }
 
-/// A packet depends only on what its listener hears and on the listener's ticks and packets so far.
+/// A packet depends only on what its listener hears, on the listener's ticks and packets so far, and on the gateway's
+/// configuration, terminations, contexts and edits.
 ///
-/// Take two gateways that differ only in some terminations, and a listener that hears none of them. In a tick, both
-/// gateways send this listener the same packet, byte for byte.
+/// Take two gateways that differ only in what some terminations received, and a listener that hears none of these
+/// terminations. In a tick, both gateways send this listener the same packet, byte for byte.
 pub fn packets_depend_on_heard()
     ensures theorem { PacketsDependOnHeard }
     ensures packets { SamePackets }

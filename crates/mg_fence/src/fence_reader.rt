@@ -7,8 +7,8 @@ use mg_core::{Core, Event, Follower, Stopped};
 use mg_words::number_of;
 use std::alloc::Global;
 
-/// Reads the number that a journal has reached: the highest number of its messages since an operator last set the
-/// fence. Stops if memory runs out.
+/// Reads the number that a journal has reached: the number that an operator set last, or a higher number of a message
+/// since then. Stops if memory runs out.
 #[derive(Drop)]
 pub struct FenceReader {
     alloc: Global,

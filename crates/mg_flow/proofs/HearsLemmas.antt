@@ -39,8 +39,8 @@ may_hear-entered : (es : List FlowEdit) (place a b : Place) (t l : Bool) → (a.
     (may_hear es a b)
 may_hear-entered es place a b t l same = grind (arith, nat_tests)
 
--- Whether a listener hears a talker after an Enter. The flags a and b say whether a place is the new member's, and the
--- flags x and y whether the place was held.
+-- Whether a listener hears a talker after an Enter. The flags a and b say for each place whether it is the new
+-- member's, and the flags x and y whether it was held.
 pair-entered : (a b x y r d w w' : Bool) → (r ≡ true → w' ≡ cond (a || b) true w)
     → ((cond a true x && (cond b true y && (r && not d))) && w')
     ≡ cond (a || b) (cond a true x && (cond b true y && (r && not d))) ((x && (y && (r && not d))) && w)

@@ -39,8 +39,8 @@ edits_in room (Apply r triple ∷ es) =
 abbrev pub is_held : List FlowEdit → Place → Bool
 is_held es place = topology.is_held (edits_in place.room es) place.seat
 
--- The last setting of the member at the place. The function `side` selects whether the member talks or whether it
--- listens.
+-- The last setting of the member at the place, and `false` if it has left or no member has entered. The function `side`
+-- selects whether the member talks or whether it listens.
 abbrev pub last_setting : (Bool → Bool → Bool) → List FlowEdit → Place → Bool
 last_setting side [] place = false
 last_setting side (Enter p talks listens ∷ es) place =
@@ -74,8 +74,8 @@ abbrev pub flows_in : List FlowEdit → Place → Place → Bool
 flows_in es talker listener =
     talks_in es talker && (listens_in es listener && hears_in es talker listener)
 
--- Whether the talker is silenced for the listener: the talker talks in the same room, and the last word mutes it for
--- the listener.
+-- Whether the talker is silenced for the listener: they are different members of the same room, the talker talks, and
+-- the last word mutes it for the listener.
 abbrev pub is_silenced_in : List FlowEdit → Place → Place → Bool
 is_silenced_in es talker listener =
     talks_in es talker

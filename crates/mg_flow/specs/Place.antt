@@ -13,7 +13,7 @@ pub record IsWithinLimits (place : Place) : Type 0 where
 abbrev pub is_same_place : Place → Place → Bool
 is_same_place a b = (a.room == b.room) && (a.seat == b.seat)
 
--- The place of another seat in the same room.
+-- The place with this seat in the same room.
 abbrev pub sibling_place : Place → ℕ → Place
 sibling_place place seat = record { room = place.room; seat = seat }
 

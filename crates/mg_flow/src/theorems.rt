@@ -20,7 +20,8 @@ pub fn each_table_represents_edits(table: &FlowTable)
     table.assert_invariant();
 }
 
-/// One more edit changes which places are held: an Enter adds its place, and a Leave removes it.
+/// The places that are held after one more edit: an Enter adds its place, a Leave removes it, and other edits change
+/// nothing.
 pub fn edits_change_who_is_held()
     ensures enter { (es : List FlowEdit) (place p : Place) (talks listens : Bool) →
         is_held (Enter place talks listens ∷ es) p ≡
@@ -51,7 +52,7 @@ pub fn edits_change_last_words()
         else may_hear es a b) }
 {}
 
-/// Every other talker in a listener's room is either open or silenced for that listener.
+/// For a member that listens, every other talker in its room is either open or silenced.
 pub fn talkers_are_open_or_silenced()
     ensures one { (es : List FlowEdit) (talker listener : Place) → IsTrue (listens_in es listener) →
         (flows_in es talker listener || is_silenced_in es talker listener) ≡

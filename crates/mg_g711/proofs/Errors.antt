@@ -32,7 +32,8 @@ error_is law v k is =
     ∙ signed_apart s (unsigned_abs v) (magnitude_of law (level_of law (unsigned_abs v)))
     ∙ ap (λ (i : ℕ). (unsigned_abs v - magnitude_of law i) + (magnitude_of law i - unsigned_abs v)) is
 
--- Whether level k extends half a step below and above its value. Only the first level of mu-law starts at its value.
+-- Whether level k extends half a step (at most 512) above its value, and as far below it, unless k is 0. Only the first
+-- level of mu-law starts at its value.
 abbrev is_centred : Law → ℕ → Bool
 is_centred law k =
     nat_eq (least_of law (suc k)) (magnitude_of law k + half_step_of law k)

@@ -70,8 +70,8 @@ count_split f v k (suc n) a below above =
     (count_step (nat_le (f a) v) (f a) v k n a (count_by (λ j. nat_le (f j) v) (range_with_len (a + 1) n))
     (leb_tells (f a) v) (below a) (λ h. above a h (omega arith)) rest)
 
--- Let v be at least f k and, unless k is n, less than f (k + 1). Then f is at most v for exactly k of the numbers from
--- 1 to n.
+-- Let f be strictly increasing from 0 to n. Let v be at least f k and, unless k is n, less than f (k + 1). Then f is at
+-- most v for exactly k of the numbers from 1 to n.
 pub count_within : (n : ℕ) (f : ℕ → ℕ) → GrowsUpTo n f → (v k : ℕ) → k ≤ n → f k ≤ v → (k < n → v < f (suc k)) →
     count_by (λ j. nat_le (f j) v) (range_with_len 1 n) ≡ k
 count_within n f up v k small low high =

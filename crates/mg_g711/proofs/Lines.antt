@@ -35,7 +35,8 @@ least_line_small : (law : Law) (v : ℕ) → least_line law v ≤ 127
 least_line_small Mu v = omega arith
 least_line_small A v = omega arith
 
--- These tests check, for each level, that the minimum of the lines is the level at its first and last magnitude.
+-- These tests check, for each level, that the minimum of the lines is the level at its first magnitude and, except for
+-- level 127, at its last magnitude.
 abbrev right_at_first : Law → ℕ → Bool
 right_at_first law k = nat_eq (least_line law (least_of law k)) k
 

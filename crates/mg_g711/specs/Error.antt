@@ -8,8 +8,9 @@ use Rattle.mg_g711.specs.Law.{quantized_of}
 abbrev pub error_of : Law → ℤ → ℕ
 error_of law v = unsigned_abs (v -ℤ quantized_of law v)
 
--- Half the width of a level: half the interval size in G.711, scaled by 4 for mu-law (table 2) and by 8 for A-law
--- (table 1). The first two exponents of A-law have the same size.
+-- Half the interval size of a level in G.711, scaled by 4 for mu-law (table 2) and by 8 for A-law (table 1). This is
+-- half the width of the level, but mu-law's first level is only this wide. The first two exponents of A-law have the
+-- same size.
 abbrev pub half_step_of : Law → ℕ → ℕ
 half_step_of Mu k = 2 ^ (k / 16 + 2)
 half_step_of A k = 2 ^ (max (k / 16) 1 + 2)

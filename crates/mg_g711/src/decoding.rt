@@ -57,7 +57,8 @@ fn decode_mu(chunk: &[u8; LANES], samples: &mut [i16], at: usize)
         .copy_to_slice(&mut samples[at..]);
 }
 
-/// Decodes 16 bytes of A-law into `samples`, starting at index `at`. The bits that A-law inverts include the sign.
+/// Decodes 16 bytes of A-law into `samples`, starting at index `at`. In addition to the bits that A-law inverts, this
+/// inverts the sign bit, so that it is set if the sample is negative.
 fn decode_a(chunk: &[u8; LANES], samples: &mut [i16], at: usize)
     requires within { at + LANES ≤ length samples.old }
     requires bytes { (j : ℕ) → j < LANES → slice_index chunk.now j < 256 }

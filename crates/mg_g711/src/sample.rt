@@ -3,10 +3,10 @@ ghost use Rattle.mg_g711.specs.Law.{byte_of, level_of, magnitude_of, sample_of};
 
 use crate::law::Law;
 
-// The bias that mu-law adds to a magnitude, so that each exponent starts at a power of two.
+// The bias that mu-law adds to a magnitude, so that each exponent above 0 starts at a power of two.
 pub const BIAS: u16 = 132;
 
-// The largest magnitude, with mu-law's bias, that is not clipped.
+// The largest magnitude that is not clipped. In mu-law, it includes the bias.
 const GREATEST: u16 = 32767;
 
 // The bits of a byte that A-law inverts.

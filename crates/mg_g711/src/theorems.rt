@@ -39,7 +39,8 @@ pub fn order_is_kept(law: Law, lower: i16, upper: i16)
     ensures { lower ≤ℤ upper → quantized_of law lower ≤ℤ quantized_of law upper }
 {}
 
-/// Encoding and decoding move a sample by at most half the width of its level.
+/// Encoding and decoding move a sample by at most half the width of its level, or, in mu-law's first level, by at most
+/// the whole width.
 ///
 /// Above the last level a sample is clipped to that level's value, which moves it by at most 644. Only mu-law has such
 /// samples.
@@ -49,7 +50,7 @@ pub fn errors_are_bounded(law: Law, sample: i16)
     ensures clipped { end_of law ≤ unsigned_abs sample →
         error_of law sample + magnitude_of law 127 ≡ unsigned_abs sample }
     ensures farthest { error_of law sample ≤ 644 }
-    // The bound is tight: each level except mu-law's first has its value in the middle.
+    // The bound is tight: each level above the first has its value in the middle.
     ensures middle { (k : ℕ) → 1 ≤ k → k ≤ 127 → least_of law k + half_step_of law k ≡ magnitude_of law k }
 {}
 

@@ -1,4 +1,4 @@
--- Which terminations have come after some events, and who is missing.
+-- Which terminations a gateway has had after some events, and who is missing.
 use Rattle.std.proofs.Common.{◌≡◌, ◌∙◌, ◌⊎◌, ◌↔◌, ◌&&◌, ◌||◌, ◌+◌, ℕ, suc, zero, not, Bool, true, false, List, [], ◌∷◌, ◌++◌, Option, Some, arith, drop, get_or, length, map, set, take, replicate, slice_get, ◌<◌, Result, Ok, Err, OnOk, refl, sym, ap, subst, inl, inr, is_some}
 use Rattle.std.proofs.lemmas.Bool.{and_parts, false≢true}
 use Rattle.std.proofs.lemmas.List.{append-nil, append_assoc, at_drop_more, drop-set-lt, drop_more, map_push, take_more, take_more_set}
@@ -79,7 +79,7 @@ run_last a w (x ∷ events) e sent (first, others, next, step, run, is) =
     let (before, mid, last, k, s) = run_last next w events e others run in
     (first ++ before, mid, last, (first, before, next, step, k, refl), s)
 
--- ## Whether a termination has come
+-- ## Whether the gateway has had a termination
 
 come_now : (config : Config) (events : List Event) (sent : List Sent) (w : World) (keys : Option (List PartyName)) →
     Run (start_of config) events sent w → has_asked keys w.gateway ≡ true → HasCome config events keys
@@ -325,7 +325,7 @@ for_more [] (x ∷ rolls) rule r h new = absurd h
 for_more (one ∷ rules) [] rule r h new = absurd h
 for_more (one ∷ rules) (x ∷ rolls) rule r h new = (h.0, for_more rules rolls rule r h.1 new)
 
--- If there is only one roll, what it records as missing is what is missing.
+-- If there is only one roll, it records who is missing.
 pub single : (config : Config) (events : List Event) (talker listener : Option (List PartyName)) (r : Roll)
     (rolls last : List Roll) (missing : Missing) → rolls ≡ r ∷ [] → IsNew talker listener r →
     ((x : Roll) → last ≡ x ∷ [] → missing ≡ x.missing) → AreCalled config events rolls last →

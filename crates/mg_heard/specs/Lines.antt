@@ -71,8 +71,8 @@ flow_cells names x = concat (
     ∷ codes "</th><td>" ∷ party_text escaped names x.talker x.talker_at
     ∷ codes "</td><td>" ∷ decimal x.context ∷ codes "</td>" ∷ [])
 
--- A row of a table. Its tag has the class, and the ticks from which the page draws the bar. After the first cells come
--- those for the beginning, the end and the bar. Without an end, the bar ends with the timeline.
+-- A row of a table. Its tag has the class, and the ticks between which the page draws the bar. After the first cells
+-- come those for the beginning, the end and the bar. Without an end, the bar ends with the timeline.
 abbrev pub table_row : (class cells from until : List ℕ) → Moment → Option Moment → List ℕ
 table_row class cells from until first end = concat (
     codes "<tr " ∷ class ∷ codes "style=\"--a:" ∷ decimal first.tick ∷ codes ";--b:"

@@ -53,7 +53,7 @@ pub record IsKept (rules : List Rule) (config : Config) (text : List ℕ) : Type
 -- A script was read to its end, or until a rule was broken before one of its ticks. `found` is the first violation in
 -- the moments of what was read. So if `found` is `None`, the script was read to its end, and no rule forbids a flow
 -- that is open in one of its moments. At most the last 4096 bytes that were read can contain a violation before a tick.
--- For each rule, `missing` says who has not come in what was read.
+-- For each rule, `missing` says whether its talker or its listener never appeared in what was read.
 pub record IsWatched (rules : List Rule) (config : Config) (input rest : Option (List ℕ))
     (found : Option Violation) (missing : List Missing) : Type 0 where
   pub front : List ℕ

@@ -71,7 +71,8 @@ abbrev pub covers : Interval → Date → Bool
 covers x time =
     is_past true x.first time && option_map_or (λ end. is_future false end time) x.end true
 
--- Whether the query selects an entry. A gap is selected by its time alone.
+-- Whether the query selects an entry. A gap is selected by its time alone. If the clock was set back, that is the time
+-- that it showed twice.
 abbrev pub selects_entry : Query → Entry → Bool
 selects_entry q (entries.Interval x) = selects q x
 selects_entry q (entries.Gap gap) = may_overlap q gap.first (Some gap.end)

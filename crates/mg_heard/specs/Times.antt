@@ -49,7 +49,7 @@ abbrev pub is_jump : Agreement → Bool
 is_jump JumpedAhead = true
 is_jump _ = false
 
--- The gap before a date that is later than expected, because the clock jumped ahead.
+-- The gap before a date that is more than a second earlier or later than expected.
 abbrev pub date_gap : Date → List ℕ → List Note → Option Gap
 date_gap date line older =
     gap_if (is_jump (agreement_of (next_tick (timeline_of older)) date))
@@ -59,8 +59,8 @@ date_gap date line older =
 abbrev pub fence_gap : Moment → ℕ → Gap
 fence_gap m number = record { first = m; end = m; fence = Some number }
 
--- The gap of a comment, if it has one. Either the clock jumped ahead before a date, or the ticks that follow were
--- missed, or the fence was set.
+-- The gap of a comment, if it has one. Either the comment has a date that is more than a second earlier or later than
+-- expected, or the ticks that follow were missed, or the fence was set.
 abbrev pub gap_of : List ℕ → List Note → Option Gap
 gap_of line older = option_map_or (λ date. date_gap date line older) (date_in line) (option_map_or
     (λ count. gap_if (nat_lt 0 count) (moment_after older) (moment_after (ticks_of count ++ older)))

@@ -2,7 +2,7 @@ use crate::changes::only_control_changes_flows;
 use crate::roll::{Roll, call_after};
 use mg_core::{Core, Event, Follower, Stopped, Watcher};
 
-/// Passes a script to a follower, and records in rolls who has come.
+/// Passes a script to a follower, and records in rolls which talkers and listeners the gateway has had.
 #[derive(Drop)]
 pub(crate) struct Attended<F: Follower + Drop> {
     pub(crate) follower: F,

@@ -191,7 +191,7 @@ impl Clock {
         })
     }
 
-    /// Stores the first title, and fails if a later one differs from it. Any other line changes nothing.
+    /// Stores the first title, and fails if a later title differs from it. Any other line changes nothing.
     fn pass_title(&mut self, number: u64, line: &[u8]) -> Result<(), ClockFault>
         ensures ticks { self.new.ticks ≡ self.old.ticks }
         ensures same { (older : List Note) → IsClock older self.old → IsClock older self.new }

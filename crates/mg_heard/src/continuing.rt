@@ -7,8 +7,8 @@ use crate::moment::Moment;
 use crate::open_flow::OpenFlow;
 use crate::open_interval::OpenInterval;
 
-/// Lets each interval begin with the earlier interval of the same flow. An interval without an earlier one is
-/// unchanged.
+/// Moves the beginning of each interval back to that of the earlier interval of the same flow. An interval without an
+/// earlier one is unchanged.
 pub(crate) fn continue_each(intervals: &mut [OpenInterval], earlier: &[OpenInterval])
     ensures value { IsRising intervals.old → IsRising earlier.now →
         intervals.new ≡ map (continued earlier.now) intervals.old }

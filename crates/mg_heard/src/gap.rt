@@ -6,8 +6,9 @@ use mg_dates::Date;
 
 /// A period in which the gateway did not run, or for which the script has no ticks.
 ///
-/// If the gateway was restarted, its script has the ticks that were missed. If the clock was set ahead, the
-/// script has no ticks between `first` and `end`. If an operator set the fence, `end` is `first`.
+/// If the gateway was restarted, its script has the ticks that were missed. If the clock was set, the script has no
+/// ticks between `first` and `end`, and if the clock was set back, `end` has the earlier date. If an operator set the
+/// fence, `end` is `first`.
 #[derive(Clone, Copy, Debug, PartialEq, Eq)]
 pub struct Gap {
     pub first: Moment,

@@ -8,9 +8,8 @@
 //! ```
 //!
 //! [`hear_at`] answers whether a talker could be heard at a given time. [`write_report`] writes a line for each
-//! interval that a query selects, and for each gap; [`write_answer`] writes the answer about a given time. All of them
-//! also return who is missing: a talker or a listener that the query names and the gateway never had
-//! (`specs/Came.antt`).
+//! interval and each gap that a query selects; [`write_answer`] writes the answer about a given time. All of them also
+//! return who is missing: a talker or a listener that the query names and the gateway never had (`specs/Came.antt`).
 //!
 //! A question may give the name of a listener or a talker. [`Names`] holds the lines of a file of names. With these
 //! lines, an [`AskedQuery`] becomes a [`Query`], which has keys in place of names. Reports also show the names of

@@ -533,7 +533,7 @@ fn push_bar_end(end: Option<Moment>, out: &mut Bytes)
     }
 }
 
-/// Writes the ticks from which the page draws a row's bar.
+/// Writes the ticks between which the page draws a row's bar.
 #[tactic(auto, using(crate::proofs::LineLemmas::steps))]
 fn push_bar(first: Moment, end: Option<Moment>, out: &mut Bytes)
     requires room { BAR_LIMIT ≤ out.old.room }

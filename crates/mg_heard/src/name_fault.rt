@@ -3,7 +3,7 @@ use crate::name::NameText;
 /// The reason why a question can't be asked.
 #[derive(Drop)]
 pub enum NameFault {
-    /// No line has this name.
+    /// No line of the file of names has this name.
     Unknown(NameText),
     NoMemory,
 }

@@ -90,8 +90,8 @@ impl OpenIntervals {
         self.len = fill_places(&mut self.places, core, first);
     }
 
-    /// Lets each interval begin with the earlier interval of the same flow. An interval without an earlier one is
-    /// unchanged.
+    /// Moves the beginning of each interval back to that of the earlier interval of the same flow. An interval without an
+    /// earlier one is unchanged.
     fn continue_from(&mut self, earlier: &OpenIntervals)
         ensures value { IsRising self.old → IsRising earlier.now → self.new ≡ map (continued earlier.now) self.old }
     {
@@ -107,8 +107,8 @@ impl OpenIntervals {
     }
 }
 
-/// Lets each interval in the first `len` places begin with the earlier interval of the same flow. An interval without
-/// an earlier one is unchanged.
+/// Moves the beginning of each interval in the first `len` places back to that of the earlier interval of the same flow.
+/// An interval without an earlier one is unchanged.
 pub(crate) fn continue_front(places: &mut [OpenInterval], len: usize, earlier: &[OpenInterval])
     requires within { len ≤ length places.old }
     ensures value { IsRising (take len places.old) → IsRising earlier.now →

@@ -92,7 +92,8 @@ impl Query {
         lasts_beyond_from(end, self.from) && begins_before_until(first, self.until)
     }
 
-    /// Returns whether the query selects an entry. A gap is selected by its time alone.
+    /// Returns whether the query selects an entry. A gap is selected by its time alone. If the clock was set back, that
+    /// is the time that it showed twice.
     pub fn selects_entry(&self, entry: &Entry) -> bool
         ensures value { result ≡ selects_entry self.now entry.now }
     {

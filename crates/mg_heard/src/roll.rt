@@ -17,7 +17,7 @@ use crate::rule::Rule;
 use mg_core::{Core, Event};
 use std::alloc::{AllocError, Global};
 
-/// Records whether the talker and the listener that a question or a rule names have come.
+/// Records whether the gateway has had the talker and the listener that a question or a rule names.
 #[derive(Drop)]
 pub struct Roll {
     pub talker: Option<Keys>,
@@ -39,8 +39,8 @@ fn has_asked(keys: &Option<Keys>, core: &Core) -> bool
 }
 
 impl Roll {
-    /// Creates a roll for a talker and a listener, neither of whom has come. A talker or a listener that isn't named
-    /// is not missing.
+    /// Creates a roll for a talker and a listener that the gateway has not had yet. A talker or a listener that isn't
+    /// named is not missing.
     fn of(alloc: Global, talker: &Option<Keys>, listener: &Option<Keys>) -> Result<Self, AllocError>
         ensures value { IfOk result (IsNew talker.now listener.now) }
     {

@@ -64,8 +64,8 @@ impl Row {
         self.len = push_flows(&mut self.places, 0, hearers, listener, first);
     }
 
-    /// Lets each interval begin with the earlier interval of the same flow. An interval without an earlier one is
-    /// unchanged.
+    /// Moves the beginning of each interval back to that of the earlier interval of the same flow. An interval without an
+    /// earlier one is unchanged.
     pub(crate) fn continue_from(&mut self, earlier: &Row)
         ensures value { IsRising self.old → IsRising earlier.now → self.new ≡ map (continued earlier.now) self.old }
     {

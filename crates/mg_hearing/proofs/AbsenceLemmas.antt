@@ -36,7 +36,7 @@ none_missing : (name : List ℕ) (rules : List AskedRule) → all_absences name 
 none_missing name [] = refl
 none_missing name (rule ∷ rules) = refl
 
--- No line is left when the rules or the answers are.
+-- When no rule or no answer is left, no line is left.
 pub absences_done : (name : List ℕ) (rules : List AskedRule) (missing : List Missing) (i : ℕ) →
     min (length rules) (length missing) ≤ i → all_absences name (drop i rules) (drop i missing) ≡ []
 absences_done name rules missing i reached =

@@ -74,7 +74,7 @@ fn digest_to_end<R: Read>(reader: &mut Hashed<R, Brand>) -> Option<Digest> {
     None
 }
 
-/// Returns the digest of the running program, or `None` if the system does not show it.
+/// Returns the digest of the running program, or `None` if the program's file can't be read.
 pub(crate) fn program_digest<F: Files>(files: &F) -> Option<Digest> {
     match OpenOptions::new().read(true).open(files, "/proc/self/exe") {
         Ok(file) => {

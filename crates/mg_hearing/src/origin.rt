@@ -16,7 +16,7 @@ pub(crate) struct Origin {
     pub(crate) script: Digest,
     /// The time that the script covers, or `None` if the script was not read to its end.
     pub(crate) extent: Option<Extent>,
-    /// The running program, or `None` if the system does not show it.
+    /// The running program, or `None` if its file can't be read.
     pub(crate) program: Option<Digest>,
 }
 

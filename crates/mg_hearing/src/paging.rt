@@ -40,8 +40,9 @@ fn fault_of(error: &Error) -> HeardFault {
     }
 }
 
-/// Writes a page about a script with this configuration, up to its last row. Returns the range of ticks of its rows,
-/// the time that the script covers, and whether the question's talker and listener are missing.
+/// Writes a page about a script with this configuration, up to its last row. Returns the range of ticks that the
+/// intervals in its rows cover, the time that the script covers, and whether the question's talker and listener are
+/// missing.
 fn write_table<R: Read, W: Write>(
     alloc: Global,
     config: Config,

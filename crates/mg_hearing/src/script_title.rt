@@ -9,7 +9,8 @@ use mg_options::Status;
 use std::alloc::Global;
 use std::io::{Read, Write};
 
-/// Returns the configuration in the title on a script's first line, or `None` if the line isn't a title.
+/// Returns the configuration in the title on a script's first line, or `None` if the line isn't a title or memory runs
+/// out.
 fn config_in(alloc: Global, line: &[u8]) -> Option<Config>
     ensures value { IfSome result (λ config. line.now ≡ title_line config) }
 {
@@ -19,7 +20,7 @@ fn config_in(alloc: Global, line: &[u8]) -> Option<Config>
 }
 
 /// Reads the first line of the script with this name. Returns the line, and the configuration that the line states. If
-/// the line states no configuration, reports this to `errors`, and returns the exit status.
+/// the line can't be read or states no configuration, reports this to `errors`, and returns the exit status.
 pub(crate) fn read_title<R: Read, E: Write>(
     alloc: Global,
     name: &str,

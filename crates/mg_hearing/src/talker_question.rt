@@ -1,6 +1,6 @@
 use crate::question::Question;
 
-/// A question when a talker was audible.
+/// A question about when a talker was audible.
 #[derive(Drop)]
 pub(crate) struct TalkerQuestion {
     /// The number of the talker's termination.

@@ -35,7 +35,7 @@ fn key_word(alloc: Global, key: &PartyName) -> Result<Vec<u8>, AllocError>
     Vec::from_slice(alloc, word.as_slice())
 }
 
-/// Returns the terminations that a question is about, as they are given on the command line.
+/// Returns the text of the key or the name that a question is about, or `anyone` if it is about all terminations.
 pub(crate) fn party_word(alloc: Global, asked: &Option<Asked>) -> Result<Vec<u8>, AllocError>
     ensures value { IfOk result (λ word. word.items ≡ party_word asked.now) }
 {

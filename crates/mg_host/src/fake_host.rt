@@ -45,7 +45,7 @@ fn copy(alloc: Global, bytes: Option<&[u8]>) -> Result<Option<Payload>, AllocErr
     }
 }
 
-/// Returns the call that opened a journal.
+/// Returns the call that opened a journal, or failed to, or `None` if there is no memory for the call.
 fn journal_call(alloc: Global, path: &str, bytes: Option<&[u8]>) -> Option<HostCall>
     ensures value { IfSome result (λ call. call ≡ OpenJournal path.now (option_map (λ b. b.now) bytes.entry)) }
 {
@@ -54,7 +54,7 @@ fn journal_call(alloc: Global, path: &str, bytes: Option<&[u8]>) -> Option<HostC
     Some(HostCall::OpenJournal(path, bytes))
 }
 
-/// Returns the call that opened a file to be read.
+/// Returns the call that opened a file to be read, or failed to, or `None` if there is no memory for the call.
 fn text_call(alloc: Global, path: &str, bytes: Option<&[u8]>) -> Option<HostCall>
     ensures value { IfSome result (λ call. call ≡ OpenText path.now (option_map (λ b. b.now) bytes.entry)) }
 {

@@ -4,8 +4,8 @@ use mg_clock::{ClockFailed, Watch};
 use std::alloc::Global;
 use std::time::Duration;
 
-/// A clock for tests. Each reading is a millisecond later than the previous reading, and no message arrives. The
-/// readings are kept. If there is no memory for a reading, the clock can't be read.
+/// A clock for tests. Each reading is a millisecond later than the previous reading, not counting the waits between
+/// them. No message arrives. The readings are kept. If there is no memory for a reading, the clock can't be read.
 #[derive(Drop)]
 pub struct FakeWatch {
     now: u64,

@@ -4,6 +4,9 @@
 //! their arguments and results ([`Tells`]). So contracts can refer to the content of files and to the datagrams
 //! received and sent. `specs/HostCalls.antt` defines the log of calls.
 //!
+//! [`Environment`] names the types of a program's host, its streams ([`Outside`]) and the other parts of the operating
+//! system that it uses ([`System`]).
+//!
 //! A program is generic over its host, so its contracts also hold for a host that logs its calls. The program can't
 //! find out whether it runs on such a host. The operating system logs nothing. [`FakeHost`] is a host in memory:
 //!

@@ -165,7 +165,7 @@ still_broken old durability lines broken = record {
   none = λ was. refl;
 }
 
--- If all the lines were written, they are a prefix of the lines.
+-- If all the lines were written, a prefix of the lines was written.
 pub all_left : (file mid new : FileState) (lines : List ℕ) → mid ≡ grown file lines → new ≡ mid
     → new ≡ grown file (take (length lines) lines)
 all_left file mid new lines whole same = same ∙ (whole ∙ ap (λ l. grown file l) (sym (take-length lines)))

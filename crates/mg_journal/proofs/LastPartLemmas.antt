@@ -33,7 +33,8 @@ wide_none (b ∷ bs) rest (suc from) none later wide =
     ap (λ is. is || has_mark (bs ++ rest)) (marks_same (b ∷ bs) rest (omega (arith, wide)) ∙ both.0)
     ∙ wide_none bs rest from both.1 later (omega (arith, wide))
 
--- If neither a chunk nor the text from `from` on has a mark, the chunk together with the text after it has no mark.
+-- Let the text from `from` on overlap a chunk by at least 9 bytes, unless nothing follows the chunk. If neither of the
+-- two has a mark, the chunk together with the text after it has no mark.
 chunk_none : (chunk rest : List ℕ) (from : ℕ) → has_mark chunk ≡ false → has_mark (drop from (chunk ++ rest)) ≡ false
     → (0 < length rest → from + 9 ≤ length chunk) → has_mark (chunk ++ rest) ≡ false
 chunk_none chunk [] from none later wide = ap has_mark (append-nil chunk) ∙ none
@@ -58,7 +59,8 @@ mark_front (b ∷ bs) rest some = at (marks (b ∷ bs)) refl some (λ more. mark
         ap (λ first. first || has_mark (bs ++ rest)) (marks_same (b ∷ bs) rest (mark_fits (b ∷ bs) is) ∙ is)
     at false is some more = mark_cons b (bs ++ rest) (more some)
 
--- If a chunk has no mark after `start`, and the text from `from` on has no mark, then there is no mark after `start`.
+-- Let the text from `from` on overlap the chunk in the same way. If the chunk has no mark after `start`, and the text
+-- from `from` on has no mark, then there is no mark after `start`.
 last_none : (chunk rest : List ℕ) (from start : ℕ) → start ≤ length chunk → has_mark (drop start chunk) ≡ false
     → has_mark (drop from (chunk ++ rest)) ≡ false → (0 < length rest → from + 9 ≤ length chunk)
     → has_mark (drop start (chunk ++ rest)) ≡ false
@@ -135,7 +137,8 @@ none_of (Some bytes) whole at from part is order fits wide none later =
     ap has_mark c.1 ∙ chunk_none part c.0 (from - at) none (later_of bytes whole at from (part ++ c.0) order c.1 later)
     (λ more. omega (arith, wide (c.2 more), order))
 
--- If a chunk has no mark, the file is searched from the beginning of the chunk on.
+-- If a chunk has no mark, and the file was searched after the chunk, the file is searched from the beginning of the
+-- chunk on.
 pub none_found : (file : FileState) (whole at from : ℕ) (part : List ℕ) → HasBytes file at part → at ≤ from
     → at + length part ≤ whole → (at + length part < whole → from + 9 ≤ at + length part) → has_mark part ≡ false
     → IsSearched file whole from → IsSearched file whole at

@@ -10,7 +10,8 @@ use mg_chain::{Chain, END};
 use std::io;
 use std::marker::Model;
 
-/// A journal in a file. If a write fails, the file is truncated to the lines that it had before.
+/// A journal in a file. If a write fails, the file is truncated to the lines that it had before. If that fails, or if a
+/// sync fails, the journal breaks.
 #[derive(Drop)]
 pub struct FileJournal<F: JournalFile> {
     file: F,

@@ -18,7 +18,8 @@ pub trait Journal {
         requires line_feed { EndsInLineFeed lines.now }
         ensures value { Appends lines.now durability (journal self.old) (journal self.new) result };
 
-    /// Returns the end of the seal of the last part of the journal's text (`mg_chain`).
+    /// Returns the end of the seal of the last part of the journal's text (`mg_chain`). If the journal is broken, it
+    /// can be the seal of any text.
     fn seal_end(&self) -> [u8; END]
         ensures value { IsSealEnd (text_to_seal (journal self.now)) result };
 }

@@ -1,4 +1,4 @@
-//! Journals: files of lines. Each append adds all of its lines or none.
+//! Journals: files of lines. Each append adds all of its lines or none, unless the journal breaks.
 //!
 //! A program that appends each line before acting on it can repeat its actions after a crash:
 //!

@@ -25,7 +25,7 @@ fn write_whole<F: JournalFile>(text: &[u8], file: &mut F) -> io::Result<()>
     Err(io::Error::from(ErrorKind::TimedOut))
 }
 
-/// Truncates a file to the length that it had before a write failed with `error`.
+/// Truncates a file to the length that it had before a write, which failed with `error`.
 fn cut_back<F: JournalFile>(len: u64, error: io::Error, file: &mut F) -> FailedAppend
     ensures value { CutsBack len (F.file file.old) (F.file file.new) result.fault }
 {

@@ -11,7 +11,8 @@ use Rattle.mg_kept.specs.KeptReplies.{KeptReply, is_in_range, is_reply_to, kept_
 use Rattle.mg_kept.specs.aids.Places.{AreFilledUpTo}
 use Rattle.mg_kept.proofs.FindLemmas.{none_found, none_in_drop, fails_at}
 
--- Storing a new reply in the next place keeps the invariant, if no stored reply answers the same request.
+-- If there is a free place, and no stored reply answers the same request, storing a new reply in the first free place
+-- keeps the invariant.
 pub one_more : (places : List KeptReply) (len n : ℕ) (old : List KeptReply) (reply : KeptReply) →
     AreFilledUpTo places len → take len places ≡ drop n old → length (take len places) < kept_limit →
     kept_text old reply.sender reply.number ≡ None → AreFilledUpTo (set places len reply) (len + 1)

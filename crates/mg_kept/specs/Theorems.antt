@@ -6,7 +6,7 @@ use Rattle.mg_words.specs.Limits.{kept_limit}
 use Rattle.mg_kept.specs.KeptReplies.{KeptReply, AreKept, is_from, is_reply_to, kept_text}
 use Rattle.mg_kept.specs.KeptReplies.{with_reply, without_range}
 
--- A kept reply is found under its sender's name, ignoring case.
+-- A reply that was just kept is found under its sender's name, ignoring case, if its request had no kept reply before.
 abbrev pub KeptIsFound : Type 0
 KeptIsFound =
     (replies : List KeptReply) (reply : KeptReply) (sender : List ℕ)

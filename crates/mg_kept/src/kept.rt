@@ -28,7 +28,7 @@ impl Model for Kept {
 }
 
 impl Kept {
-    /// Creates an empty store. Fails only if the allocation fails. No other call allocates.
+    /// Creates an empty store. Fails only if an allocation fails. No other call allocates.
     pub fn new(alloc: Global) -> Result<Self, AllocError>
         ensures value { IfOk result (λ kept. kept ≡ []) }
     {

@@ -8,16 +8,14 @@ ghost use Rattle.mg_kept.specs.aids.Changes.{FewNewerStay, NewerRepliesEvict, La
 
 use crate::kept::Kept;
 
-/// At most [`KEPT_REPLIES`] replies are kept, and no two of them answer the same request.
-///
-/// [`KEPT_REPLIES`]: crate::KEPT_REPLIES
+/// At most 32 replies are kept, and no two of them answer the same request.
 pub fn kept_replies_are_distinct(kept: &Kept)
     ensures { AreKept kept.now }
 {
     kept.assert_invariant();
 }
 
-/// A kept reply is found under its sender's name, ignoring case.
+/// A reply that was just kept is found under its sender's name, ignoring case, if its request had no kept reply before.
 #[tactic(auto, using(crate::proofs::KeepLemmas::kept_is_found, crate::proofs::KeepLemmas::letters_are_one))]
 pub fn kept_reply_is_found()
     ensures theorem { KeptIsFound }

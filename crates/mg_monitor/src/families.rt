@@ -160,7 +160,7 @@ fn seen_port(report: &TickReport<'_>, ports: &[PortTotals], slot: u8) -> Option<
     Some((port, totals))
 }
 
-/// Writes the metrics of each port.
+/// Writes the metrics of each port that has a termination or at which a datagram has arrived.
 pub fn put_ports<W: Write>(
     report: &TickReport<'_>,
     ports: &[PortTotals],

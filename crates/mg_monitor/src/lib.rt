@@ -1,15 +1,16 @@
 //! Reports and metrics for the operator of a gateway: reports on standard error, and metrics for Prometheus.
 //!
 //! [`Reports`] and [`Metrics`] are [`Monitor`](mg_serve::Monitor)s of a server, so they can't change what the gateway
-//! does. [`Reports`] prints the totals since the start and a line for each media port that has had trouble. [`Metrics`]
-//! passes text in Prometheus' format to a [`Sink`] every five seconds. [`Both`] combines two monitors into one.
+//! does. [`Reports`] prints the totals since the start, and a line for each media port that has had trouble or whose
+//! caller was silent. [`Metrics`] passes text in Prometheus' format to a [`Sink`] every five seconds. [`Both`] combines
+//! two monitors into one.
 //!
 //! ```rust
 //! let mut monitor = Reports::new(alloc, 60, &mut errors)?;
 //! let counts = serve(alloc, &setup, None, &mut ports, &mut input, &mut output, &mut monitor)?;
 //! ```
 //!
-//! [`Loss`] counts the RTP packets that never arrived.
+//! [`Loss`] counts the RTP packets that were lost.
 #![tactic(auto)]
 
 mod both;

@@ -4,12 +4,12 @@ use mg_rtp::{Header, read};
 /// The number of sequence numbers that are remembered.
 const WINDOW: u16 = 64;
 
-/// Uses sequence numbers to count the RTP packets that never arrived (RFC 3550, A.3).
+/// Uses sequence numbers to count the RTP packets that were lost (RFC 3550, A.3).
 ///
 /// A packet counts as lost as soon as a packet with a sequence number at least 64 higher has arrived, or another stream
 /// begins. A stream begins with a packet that has another SSRC, or whose sequence number is far from the newest number:
-/// at least [`MAX_DROPOUT`] ahead, or more than [`MAX_MISORDER`] behind. So reordered packets don't count as lost, and
-/// the count never falls.
+/// at least [`MAX_DROPOUT`] ahead, or more than [`MAX_MISORDER`] behind. So packets that are reordered within 64
+/// sequence numbers don't count as lost, and the count never falls.
 #[derive(Clone, Copy, Debug, PartialEq, Eq)]
 pub struct Loss {
     ssrc: u32,

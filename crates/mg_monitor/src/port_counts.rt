@@ -8,7 +8,7 @@ pub struct PortCounts {
     pub counts: Counts,
     /// RTP datagrams that were dropped because of their sender.
     pub strangers: u64,
-    /// Counts the packets that have never arrived since the start.
+    /// Counts the packets that were lost since the start.
     loss: Loss,
     /// The number of packets that were lost up to the last report.
     lost_before: u64,

@@ -18,10 +18,10 @@ type Text = ArrayVec<u8, 512>;
 
 /// Prints reports for an operator.
 ///
-/// At the given interval, it prints the totals since the start, and a line for each media port that has had trouble
-/// since the last report. After a stall, it prints how many packets were too late to be sent. When appends to the
-/// journal begin to fail, or work again, it prints a line at once. At most once a second, it prints how many messages
-/// didn't pass the fence. It skips lines that can't be printed.
+/// At the given interval, it prints the totals since the start. It also prints a line for each media port that has had
+/// trouble since the last report, or whose caller was silent. After a stall, it prints how many packets were too late
+/// to be sent. When appends to the journal begin to fail, or work again, it prints a line at once. At most once a
+/// second, it prints how many messages didn't pass the fence. It skips lines that can't be printed.
 #[derive(Drop)]
 pub struct Reports<'a, E: Write> {
     every: u64,
@@ -38,7 +38,7 @@ pub struct Reports<'a, E: Write> {
 }
 
 impl<'a, E: Write> Reports<'a, E> {
-    /// Creates a monitor that prints reports at this interval, in seconds; 0 disables them.
+    /// Creates a monitor that prints the totals and the ports at this interval, in seconds; 0 disables these lines.
     pub fn new(alloc: Global, seconds: u16, writer: &'a mut E) -> Result<Self, AllocError> {
         Ok(Reports {
             every: u64::from(seconds) * TICKS,
@@ -81,7 +81,7 @@ impl<'a, E: Write> Reports<'a, E> {
         let _ = self.writer.flush();
     }
 
-    /// Prints a line if messages didn't pass the fence.
+    /// Prints a line if messages didn't pass the fence since the last such line, at most once a second.
     fn watch_fence(&mut self, report: &TickReport<'_>) {
         let Some(fence) = report.fence else {
             return;

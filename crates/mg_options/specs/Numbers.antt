@@ -12,14 +12,14 @@ abbrev pub number_rule : Text → ℕ → ℕ → Rule
 number_rule name least most =
     record (text_rule name) { parser = Some (Signed (pos least) (pos most)) }
 
--- The number that a string denotes in decimal digits, with an optional plus sign. `None` if the number is not below
--- `limit`.
+-- The number that a string denotes in decimal digits, with an optional plus sign. `None` if the string denotes no
+-- number, or one that is not below `limit`.
 abbrev pub number_below : ℕ → Text → Option ℕ
 number_below limit text = let digits = without_leading_plus text in
     if is_numeral digits && nat_lt (digits_value 10 digits) limit
     then Some (digits_value 10 digits) else None
 
--- The number that was given for an option.
+-- The number that was given for an option, if there is one.
 abbrev pub number_given : ℕ → Text → List Row → Option ℕ
 number_given limit name found = option_and_then (number_below limit) (one_of name found)
 

@@ -17,12 +17,12 @@ pub enum Status {
     Unknown,
     /// A script breaks a rule about who must not be heard.
     RuleBroken,
-    /// A read, a write or the clock failed.
+    /// Input or output, the clock or the random number generator failed, or the metrics cannot be written.
     Failed,
     NoMemory,
     /// A port cannot be bound.
     NoPort,
-    /// A journal cannot be used.
+    /// A journal or another file cannot be used.
     BadJournal,
 }
 

@@ -77,13 +77,13 @@ module _ {P : Type 0} where
       pub same_limit : new.queue.capacity ≡ old.queue.capacity
       pub same_overflow : overflow new ≡ overflow old
 
-    -- At most this many writes passed on part of the queue, and nothing else changed.
+    -- At most this many writes passed on part of the queue, and the number of dropped writes did not change.
     pub record IsFlushed (most : ℕ) (old new : Outlet P) : Type 0 where
       pub passed : PassesOn most (queued new) old new
       pub count : dropped new ≡ dropped old
 
-    -- If at least 4,096 bytes were queued, some of them were passed on, and `rest` is left. Then the text joined the
-    -- queue, or the whole text was dropped and counted.
+    -- If at least 4,096 bytes were queued, one write may have passed on some of them; `rest` is left. Then the text
+    -- joined the queue, or the whole text was dropped and counted.
     pub record IsWritten (text : List ℕ) (old new : Outlet P) : Type 0 where
       pub rest : List ℕ
       pub passed : PassesOn (write_limit old) rest old new

@@ -1,4 +1,4 @@
-//! A writer that never waits for its reader.
+//! A writer that never waits for its reader, except in [`Outlet::finish`].
 //!
 //! An [`Outlet`] keeps written text in a queue, and passes it on to a [`Pipe`] only while the pipe is ready. So a slow
 //! reader of standard output can't delay the gateway's ticks:

@@ -19,15 +19,15 @@ use std::os::fd::AsRawFd;
 /// The maximum number of chunks that one flush passes on (1 MiB in total).
 const FLUSH_CHUNKS: u16 = 256;
 
-/// A writer that never waits for its reader.
+/// A writer that never waits for its reader, except in [`finish`](Outlet::finish).
 ///
 /// A write adds all of its text to a queue in memory, or none of it. [`flush`](Write::flush) passes on as many bytes as
 /// it can without waiting, in order. So does [`write`](Write::write), if at least 4,096 bytes are queued already. A
 /// flush passes on at most 1 MiB, and a write at most 4,096 bytes. So even a reader that catches up doesn't delay the
 /// caller for long.
 ///
-/// If the pipe fails, each later call returns its error, and nothing more is written. If a write was interrupted or
-/// would have waited, the outlet tries again later.
+/// If the pipe fails, each later write, flush and [`finish`](Outlet::finish) returns the pipe's error, and nothing more
+/// is written. If a write was interrupted or would have waited, the outlet tries again later.
 #[derive(Drop)]
 pub struct Outlet<P> {
     pipe: P,
@@ -175,7 +175,8 @@ impl<P: Pipe> Outlet<P> {
 }
 
 impl<P: Pipe> Write for Outlet<P> {
-    /// Accepts or drops all of the text, and returns the length of the text in either case.
+    /// Accepts or drops all of the text, and returns the length of the text in either case. Fails if the pipe fails or
+    /// has failed.
     fn write(&mut self, text: &[u8]) -> io::Result<usize>
         ensures bound { WritesAtMost result text.now }
         ensures bytes { WriteAppends None None result text.now }

@@ -13,7 +13,7 @@ pub trait Pipe {
     fn is_ready(&mut self) -> bool
         ensures asked { Continues (calls self.old) (calls self.new) (Asked result ∷ []) };
 
-    /// Writes these bytes, or only the first of these bytes, and returns the number of bytes written.
+    /// Writes these bytes or a prefix of them, and returns the number of bytes written.
     fn write(&mut self, bytes: &[u8]) -> io::Result<usize>
         ensures within { IfOk result (λ n. n ≤ length bytes.now) }
         ensures wrote { Continues (calls self.old) (calls self.new) (Wrote bytes.now (result_ok result) ∷ []) };

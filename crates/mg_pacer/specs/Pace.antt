@@ -30,7 +30,7 @@ pub record Advances (old : Pace) (t : ℕ) (new : Pace) : Type 0 where
   pub more : (old.steps ≤ new.steps) × (old.left ≤ new.left)
   -- At most 50 ticks are written at once, with their polls.
   pub few : new.steps ≤ old.steps + 50 * old.polls
-  -- If a tick was skipped, more than 49 ticks are written.
+  -- If a tick was skipped, the steps of more than 49 ticks were written.
   pub needed : old.left < new.left → old.steps + 49 * old.polls < new.steps
 
 -- The wait `d` after a reading `t`: the next step is due at the end of the wait, and no step is due earlier.

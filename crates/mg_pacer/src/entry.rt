@@ -36,9 +36,9 @@ fn run<K: Watch, W: Write, E: Write>(
 
 /// Runs the program with these arguments, which don't include the program's name. Returns its exit status.
 ///
-/// The status is 0 when the run finishes, when the output is closed, or when help or the version has been printed. It
-/// is 2 for invalid arguments, 3 if the clock failed, and 4 if memory ran out. If the status is nonzero, an error
-/// message goes to `errors`; skipped ticks are also reported there.
+/// The status is 0 when the run finishes, when the output is closed, or after a request for help or the version. It is
+/// 2 for invalid arguments, 3 if the clock failed, and 4 if memory ran out. If the status is nonzero, an error message
+/// goes to `errors`; skipped ticks are also reported there.
 pub fn program<'a, S: AsStr, K: Watch, W: Write, E: Write>(
     alloc: Global,
     words: &'a [S],

@@ -38,7 +38,7 @@ abbrev pub first_list : PlayList
 first_list = record { phase = Idle; source = None; last = None; places = empty_places first_depth }
 
 -- The play list after a start. The frame's sequence number becomes the next sequence number, and the wait in ticks is
--- half the depth.
+-- half the depth, rounded down.
 abbrev pub started : PlayList → ℕ → ℕ → List ℤ → PlayList
 started list ssrc sequence frame = record {
   phase = Wait (depth_of list / 2);
@@ -66,11 +66,11 @@ abbrev pub is_idle : Phase → Bool
 is_idle Idle = true
 is_idle _ = false
 
--- Whether the list has no source yet, or another source.
+-- Whether the list has no source yet, or a source other than this one.
 abbrev pub is_new_source : PlayList → ℕ → Bool
 is_new_source list ssrc = option_map_or (λ source. not (ssrc == source.ssrc)) list.source true
 
--- The distance of a frame ahead of the next sequence number, if the list has a source.
+-- How far a frame is ahead of the next sequence number, or 0 if the list has no source.
 abbrev pub distance_in : PlayList → ℕ → ℤ
 distance_in list sequence =
     option_map_or (λ source. distance_of source.next sequence) list.source (pos 0)
@@ -91,8 +91,9 @@ placed list ssrc sequence frame =
     else if is_some (frame_at list.places place) then (list, answer.Again)
     else (filled list place frame, answer.Placed)
 
--- The play list after a tick, and what the tick plays. The content of place 0, a frame or nothing, becomes the last
--- frame. An empty list plays silence and forgets the last frame.
+-- The play list after a tick, and what the tick plays. A list that is idle or waits plays silence. When a list runs,
+-- the content of place 0, a frame or nothing, becomes the last frame. If a list that runs is empty, it becomes idle,
+-- plays silence and forgets the last frame.
 abbrev pub ticked_in : Phase → PlayList → PlayList × Played
 ticked_in Idle list = (list, Silence)
 ticked_in (Wait ticks) list =

@@ -5,7 +5,8 @@ pub enum Placed {
     Started,
     /// The frame was stored at the place for its sequence number.
     Placed,
-    /// The frame was stored at the end. Frames at the front were dropped to make room.
+    /// The frame was stored at the last place. The other frames moved down, and those that fell below place 0 were
+    /// dropped.
     Pushed,
     /// The play list already had a frame with this sequence number. The new frame was dropped.
     Again,

@@ -121,7 +121,7 @@ impl Places {
         append_empty(&mut self.ring, depth - kept);
     }
 
-    /// Plays the frame at place 0, and moves the others down by one place.
+    /// Plays what is due for place 0, and moves the other frames down by one place.
     pub(crate) fn give(&mut self) -> Played
         ensures last { self.new.last ≡ frame_at self.old.places 0 }
         ensures places { self.new.places ≡ fallen self.old.places 1 }

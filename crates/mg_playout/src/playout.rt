@@ -80,8 +80,9 @@ impl Playout {
         }
     }
 
-    /// Advances by 20 ms, and returns the frame that is due. A missing frame is replaced by the previous frame at half
-    /// its level.
+    /// Advances by 20 ms, and returns what is played. If the frame that is due is missing, the previous frame replaces
+    /// it at half its level. The list plays silence while it is idle or waiting, when it runs empty, and if the
+    /// previous frame is missing, too.
     pub fn tick(&mut self) -> Played
         ensures step { ticked self.old ≡ (self.new, result) }
         ensures frame { IfSome (sound_of result) IsFrame }
@@ -203,7 +204,7 @@ impl Playout {
         self.places.shift(usize::from(count));
     }
 
-    /// Plays the frame at place 0, and shifts the others by one place.
+    /// Plays what is due for place 0, and shifts the other frames by one place.
     fn advance(&mut self) -> Played
         ensures list { self.new ≡ record (shifted self.old 1) { last = frame_at self.old.places 0 } }
         ensures value { result ≡ given (frame_at self.old.places 0) self.old.last }

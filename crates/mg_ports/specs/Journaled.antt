@@ -22,7 +22,8 @@ IsComment line =
     (text : List ℕ) × (line ≡ codes "# " ++ (text ++ codes "\n")) × (length text ≤ 1000)
     × All (λ b. b ≢ 10) text
 
--- Lines were appended. The seal of the journal's last part and another comment may precede the lines.
+-- Lines were appended, or the append failed. The seal of the journal's last part and another comment may precede the
+-- lines.
 abbrev pub AppendsDated : List ℕ → Durability → JournalState → JournalState
     → Result (Unit {0}) AppendFault → Type 0
 AppendsDated lines durability old new result =

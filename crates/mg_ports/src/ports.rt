@@ -44,8 +44,8 @@ pub trait Ports {
         ensures fault { OnErr result (IsCounted (failed self.old) (failed self.new)) }
         ensures journal { journal self.new ≡ journal self.old };
 
-    /// Begins a tick, whose packets are sent next. If the tick is late, every send from a media socket fails until the
-    /// next tick.
+    /// Begins a tick, whose packets are sent next. If the tick is late, ports on a network fail every send from a media
+    /// socket until the next tick.
     fn begin_tick(&mut self, timing: Timing)
         ensures logged { Logged (calls self.old) (calls self.new) (BeginTick timing ∷ []) }
         ensures journal { journal self.new ≡ journal self.old };

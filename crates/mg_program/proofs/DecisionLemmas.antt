@@ -29,7 +29,8 @@ does_both (Some a) (Some b) (Some c) p q k m n (done, all, are, decides) (more, 
   decides_both k done more m n decides goes,
 )
 
--- If the host did one call that the gateway may make, `DoesCalls` holds for the session's call in it, if any.
+-- If the host did one call that the gateway may make, `DoesCalls` holds for the session's call that it stands for, if
+-- any.
 pub does_one : (a b : Option (List HostCall)) (call : HostCall) (k : Knows) → Grows a b (call ∷ []) → MayCall k call
     → DoesCalls a b (on_ports (call ∷ [])) k (after k call)
 does_one a None call k grows may = tt

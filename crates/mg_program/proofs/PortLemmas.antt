@@ -91,7 +91,7 @@ not_started journal text addresses config missed fence a b c d bound begins same
     (quiet_then a b c (binds_of config addresses, bound, binds_quiet config addresses)
     (begun_quiet journal text config missed fence b c begins))
 
--- Binding one more socket extends the sockets that were bound first.
+-- If the next media socket is bound, `first_binds` holds with one more socket.
 pub binds_more : (config : Config) (address : Option (List ℕ)) (count port : ℕ) (a b c : Option (List HostCall))
     → Grows a b (first_binds config address count) → port ≡ slot_port (limits_of config) count
     → Grows b c (Bind (unwrap_or address config.address) port true ∷ []) → Grows a c (first_binds config address (count + 1))

@@ -1,4 +1,4 @@
--- The decisions of a gateway: the packets that it doesn't send, and the sockets from which it receives nothing.
+-- The decisions of a gateway: the packets that it doesn't send, and the receives that it leaves out.
 use Rattle.std.specs.Prelude.{◌≡◌, ◌⊎◌, ℕ, ◌+◌, ◌<◌, ◌≤◌, Bool, true, false, List, [], ◌∷◌}
 use Rattle.std.specs.Prelude.{Option, IfSome, replicate, slice_index, slice_index_or, slice_set}
 use Rattle.mg_clock.specs.declared.timing.Timing.{Timing}
@@ -27,7 +27,8 @@ abbrev pub all_ready : List Bool
 all_ready = replicate (termination_limit + 1) true
 
 -- The gateway's knowledge after a call. When a datagram arrives, its socket is reported once. So a datagram may be
--- waiting there from then on, until a receive finds no datagram.
+-- waiting there from then on, until a receive finds no datagram. If a poll fails, a datagram may be waiting at each
+-- socket.
 abbrev pub after : Knows → HostCall → Knows
 after k (Reported socket) = knows k.timing (slice_set k.ready socket true) false
 after k (Poll true) = knows k.timing k.ready true
@@ -40,9 +41,9 @@ after k _ = knows k.timing k.ready false
 abbrev pub IsUnusable : (address : List ℕ) → Type 0
 IsUnusable address = (address ≡ 0 ∷ 0 ∷ 0 ∷ 0 ∷ []) ⊎ (224 ≤ slice_index address 0)
 
--- Whether the gateway may make this call. A packet is sent if and only if its tick is on time and its destination is
--- usable. A receive is left out only if no datagram may be waiting at the socket. Right before the control socket's
--- turn, the host is asked at which sockets datagrams have arrived.
+-- Whether the gateway may make this call. A packet from a media socket is sent if and only if its tick is on time and
+-- its destination is usable. A receive is left out only if no datagram can be waiting at the socket. Right before the
+-- control socket's turn, the host is asked at which sockets datagrams have arrived.
 abbrev pub MayCall : Knows → HostCall → Type 0
 MayCall k (Reported socket) = Unit {0}
 MayCall k (Poll polled) = Unit {0}
@@ -66,7 +67,8 @@ Decides k (call ∷ calls) last = MayCall k call × Decides (after k call) calls
 abbrev pub first_known : Knows
 first_known = knows OnTime all_ready false
 
--- Since the log was `old`, the host has done only what the gateway may do, and the gateway's knowledge is `last`.
+-- Since the log was `old`, when a session began, the host has done only what the gateway may do, and the gateway's
+-- knowledge is `last`.
 abbrev pub HasDecided : (old new : Option (List HostCall)) → (last : Knows) → Type 0
 HasDecided old new last = ∥ ((done : List HostCall) × Grows old new done
     × IfSome new (λ all. Decides first_known done last)) ∥₁

@@ -18,16 +18,16 @@ use Rattle.mg_program.specs.Serve.{ByClock, ByLines, Serves}
 use Rattle.mg_arguments.specs.Draws.{no_draws}
 use Rattle.mg_program.specs.Verify.{IsVerifiedFrom}
 
--- A gateway was asked whether it answers. If it doesn't answer, nothing is printed.
+-- A gateway was asked whether it answers, or asking it failed. If it doesn't answer, nothing is printed.
 abbrev pub Checks : {W : Type 0} → W → W → Status → Type 0
 Checks old new status =
     (status ≡ Done) ⊎ (status ≡ Failed) ⊎ ((status ≡ NoAnswer) × (new ≡ old))
 
--- A run took place, and the status says how it ended. A successful run prints an error in at most two cases. Either it
--- is asked when a talker was audible, and the script has no RTP datagrams. Or it is asked about a termination that the
--- gateway of the script never had; `Says` is true of these errors. A clock-driven run reads no input. `before` and
--- `after` are the calls on the host, if they are known. `clock` has the readings and waits of the clock that was
--- stopped.
+-- A run took place, and the status says how it ended. A successful run prints an error in at most two cases. In the
+-- first, the question is when a talker was audible, and the script has no RTP datagrams. In the second, a question or a
+-- rule is about a termination that the gateway of the script never had; `Says` is true of these errors. A clock-driven
+-- run reads no input. `before` and `after` are the calls on the host, if they are known. `clock` has the readings and
+-- waits of the clock that was stopped.
 abbrev pub Runs : {R W : Type 0} → (R → Option (List ℕ)) → (W → Option (List ℕ))
     → (silent : Type 0) → (Says : List ℕ → Type 0) → (before after : Option (List HostCall))
     → (clock : ClockSeen) → R → R → W → W → Invocation → Status → Type 0

@@ -29,8 +29,8 @@ use Rattle.mg_program.specs.Decisions.{HasDecided, Knows}
 use Rattle.mg_program.specs.Status.{status_of}
 
 -- The sockets of a gateway, in the order in which they are bound: the control socket, the media sockets, and a further
--- control socket for each address but the first. The others are bound to the first address, if there is one, and
--- otherwise to the addresses of the configuration.
+-- control socket for each address but the first. The control socket and the media sockets are bound to the first
+-- address, if there is one, and otherwise to the addresses of the configuration.
 abbrev pub binds_of : Config → (addresses : List (List ℕ)) → List HostCall
 binds_of config addresses =
     let first = slice_get addresses 0 in
@@ -44,7 +44,8 @@ pub data Drive : Type 0 where
   ByLines : (input rest : Option (List ℕ)) → Drive
   ByClock : (late : ℕ) (clock : ClockSeen) → Drive
 
--- The commands that the source gives. If the source is a clock, it is the host's, and nothing has read it before.
+-- The source gives these commands in a run with this outcome. If the source is a clock, it is the host's, and nothing
+-- has read it before the run.
 abbrev pub Gives : Drive → Form → (begun : Option (List HostCall)) → Result Counts RunFault
     → List Command → Type 0
 Gives (ByLines input rest) form begun outcome commands =
@@ -53,9 +54,10 @@ Gives (ByClock late clock) form begun outcome commands =
     (unread : ClockSeen) × IsLogged begun unread.readings []
     × ClockCommands form late unread clock ⊤ outcome commands
 
--- The ports were bound, and a gateway ran with this outcome. After it had appended to its journal, it started from the
--- journal's text, as far as the text is known. If a recording was requested, the output is a recording. From then on,
--- the host did exactly what the session asked its ports to do, except for the calls that the gateway left out.
+-- A gateway whose ports were bound ran with this outcome. Before, it had started as `HasStarted` states: from the text
+-- of its journal, if it keeps one and the text is known. If a recording was requested, the output is a recording. After
+-- the start, the host did exactly what the session asked its ports to do, except for the calls that the gateway left
+-- out.
 pub record ServesOnPorts (drive : Drive) (config : Config) (service : Service)
     (held written text : Option (List ℕ)) (bound last : Option (List HostCall))
     (outcome : Result Counts RunFault) : Type 0 where
@@ -86,8 +88,9 @@ ServesChosen drive unchanged config service held written text found last status 
     × ServesOnPorts drive config service held written text bound last outcome)
     ⊎ (FailsToStart config status × RunsNoSession found last × unchanged)
 
--- Either the gateway's journal (if any) was opened, and a configuration was chosen, perhaps with drawn numbers. Or the
--- gateway failed to start.
+-- Either the gateway's journal (if any) was opened, a configuration was chosen, perhaps with drawn numbers, and
+-- `ServesChosen` holds. Or the gateway failed to start, with no call but the one that opens its journal, and
+-- `unchanged` is true.
 abbrev pub Serves : Drive → (unchanged : Type 0) → Config → Service → Draws
     → (held written : Option (List ℕ)) → (before last : Option (List HostCall)) → Status → Type 0
 Serves drive unchanged config service draws held written before last status =

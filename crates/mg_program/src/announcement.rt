@@ -36,7 +36,7 @@ fn write_ports(config: &Config, service: &Service, text: &mut Text) {
     }
 }
 
-/// Writes the controllers that may command a gateway.
+/// Writes the controllers that may command a gateway, or a warning that anybody may.
 fn write_controllers(service: &Service, text: &mut Text) {
     let controllers = service.controllers.as_slice();
     if controllers.is_empty() {
@@ -49,7 +49,7 @@ fn write_controllers(service: &Service, text: &mut Text) {
     write_addresses("controllers:", controllers, text);
 }
 
-/// Writes the journal that a gateway keeps.
+/// Writes the path of the journal that a gateway keeps, if any, and whether each message is synced.
 fn write_journal(service: &Service, text: &mut Text) {
     let Some(path) = &service.journal else {
         let _ = writeln!(text, "journal: none");
@@ -63,7 +63,8 @@ fn write_journal(service: &Service, text: &mut Text) {
     let _ = writeln!(text, "journal: {path}{synced}");
 }
 
-/// Writes the number at which a gateway's fence begins. `reached` is the number that the journal has reached.
+/// Writes whether a gateway has a fence, and where it begins: at the number to which an operator sets it, or else at
+/// `reached`, the number that the journal has reached.
 fn write_fence(service: &Service, reached: u32, text: &mut Text) {
     let from = service.fence_from.unwrap_or(reached);
     let _ = match service.fence {
@@ -73,8 +74,8 @@ fn write_fence(service: &Service, reached: u32, text: &mut Text) {
     };
 }
 
-/// Prints the addresses, ports, controllers, journal and fence of a gateway, and its version. Warns if anybody may
-/// command the gateway. `reached` is the number that the journal has reached.
+/// Prints the program's version, and the addresses, ports, controllers, journal and fence of a gateway. Warns if
+/// anybody may command the gateway. `reached` is the number that the journal has reached.
 pub(crate) fn announce<T: Write>(
     config: &Config,
     service: &Service,

@@ -77,7 +77,8 @@ fn bind_first<H: Sockets>(
     Ok(())
 }
 
-/// Binds a further control socket on each of these addresses. The error names the first address that can't be bound.
+/// Binds a further control socket at each address in `addresses`. The error names the first address at which no socket
+/// can be bound.
 fn bind_others<H: Sockets>(host: &mut H, addresses: &[[u8; 4]], port: u16) -> Result<(), BindFault>
     ensures bound { MatchResult result
         (λ _. Grows (H.calls host.old) (H.calls host.new) (other_binds port addresses.now))
@@ -102,9 +103,9 @@ fn others(addresses: &[[u8; 4]]) -> &[[u8; 4]]
     }
 }
 
-/// Binds the ports of a gateway to the first of these addresses, and further control sockets to the others. If there is
-/// no address, the ports are bound to the addresses in the configuration. The error names the first port that can't be
-/// bound.
+/// Binds the ports of a gateway to the first address in `addresses`, and further control sockets to the others. If
+/// `addresses` is empty, the ports are bound to the addresses in the configuration. The error names the first port that
+/// can't be bound.
 fn bind_all<H: Sockets>(
     host: &mut H,
     config: &Config,

@@ -12,7 +12,7 @@ use std::time::{Clock, Duration};
 /// The part of the heartbeat's reply that follows the sender.
 const REPLY: &[u8] = b"\nReply=1{Context=-{AuditValue=ROOT}}";
 
-/// The maximum number of times that the heartbeat is sent.
+/// The maximum number of times that the heartbeat is sent from the first socket.
 const TRIES: usize = 3;
 
 /// The time to wait for each reply, in milliseconds.
@@ -26,8 +26,8 @@ fn answers_heartbeat(message: &[u8]) -> bool {
     message.ends_with(REPLY)
 }
 
-/// Sends the heartbeat until it is answered, and acknowledges the answer. Fails with the system's error, or with
-/// `TimedOut` if no answer arrives.
+/// Sends the heartbeat up to [`TRIES`] times, until it is answered, and acknowledges the answer. Fails with the
+/// system's error, or with `TimedOut` if no answer arrives.
 fn ask(socket: &UdpSocket, gateway: SocketAddrV4) -> io::Result<()> {
     socket.connect(gateway)?;
     socket.set_read_timeout(Some(Duration::from_millis(WAIT_MS)))?;
@@ -47,8 +47,9 @@ fn ask(socket: &UdpSocket, gateway: SocketAddrV4) -> io::Result<()> {
     Err(io::Error::from(ErrorKind::TimedOut))
 }
 
-/// Sends the heartbeat once more, and returns another address from which it is answered. A gateway that is bound to
-/// 0.0.0.0 may answer from there, and the socket that asked before receives only from the gateway's address.
+/// Sends the heartbeat once more, and returns the sender of the answer if it isn't at the gateway's address. Otherwise,
+/// fails. A gateway that is bound to 0.0.0.0 may answer from another address, and the socket that asked before receives
+/// only from the gateway's address.
 fn other_answer<N: Net>(
     net: &N,
     source: Ipv4Addr,

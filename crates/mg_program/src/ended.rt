@@ -1,6 +1,6 @@
 use mg_options::Status;
 
-/// The exit status of a run, and the host that it ran on.
+/// The exit status of a run, and the host and the streams that it used.
 #[derive(Drop)]
 pub struct Ended<H> {
     pub host: H,

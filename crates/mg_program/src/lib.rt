@@ -4,17 +4,17 @@
 //!
 //! ```rust
 //! let words = ["replay", "--slots", "4"];
-//! let local = LocalSystem { clock: &rt, random: &rt, files: &rt };
-//! let system = System { net: &rt, local };
-//! let ended = program(&system, host, alloc, &words, &mut input, &mut output, &mut errors, &mut reports);
+//! let system = System { alloc: rt.alloc(), net: &rt, clock: &rt, random: &rt, files: &rt };
+//! let outside = Outside { host, input, output, errors, reports };
+//! let ended = program::<Plain, _>(&system, outside, &words);
 //! ```
 //!
 //! A gateway's sockets are those of the host ([`mg_host::Sockets`]), which are bound at startup. `GatewayPorts` lends
 //! these sockets to a session (`mg_serve`). It sends no packet in a late tick, and no packet to an address that no
-//! caller can have. It receives from a media socket only if a datagram may be waiting there. `specs/Decisions.antt`
-//! defines these decisions.
+//! caller can have. It receives from a socket only if a datagram may be waiting there. `specs/Decisions.antt` defines
+//! these decisions.
 //!
-//! `specs/Program.antt` defines how a run ends. `mg_arguments` defines what the arguments request, and `mg_start`
+//! `specs/Program.antt` defines the effect of a run. `mg_arguments` defines what the arguments request, and `mg_start`
 //! defines how a gateway starts.
 #![tactic(auto)]
 

@@ -120,7 +120,7 @@ fn live_on_sockets<L: LogKey, H: Host + Drop, J: Journal + Drop, C: Clock, W: Wr
 /// Runs a gateway on UDP ports, driven by the system's clock: a poll and a tick every 20 ms, and a poll when a message
 /// arrives in between. Ends only on a fault, which is reported to `errors`.
 ///
-/// The gateway is new, with some numbers drawn at random, or it resumes from the journal.
+/// The gateway is new, perhaps with numbers drawn at random, or it resumes from the journal.
 ///
 /// After a delay, all missed polls and ticks are executed at once. If a tick is more than `late` ticks late, its
 /// packets are not sent. So callers hear a gap, and timestamps stay in step with the clock. `reports` receives the

@@ -36,8 +36,8 @@ pub struct Ready<'a, J: Journal, C: Clock> {
     pub journal: Option<DatedJournal<'a, J, C>>,
 }
 
-/// Checks that metrics can be written, if they are enabled. If this fails, reports the fault to `errors` and returns
-/// the program's exit status.
+/// If metrics are enabled, checks that they can be written without replacing the journal. If this fails, reports the
+/// fault to `errors` and returns the program's exit status.
 fn check_metrics<F: Files, E: Write>(
     files: &F,
     service: &Service,

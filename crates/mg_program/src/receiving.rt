@@ -9,14 +9,14 @@ use mg_core::{Peer, TERMINATIONS};
 use mg_host::Sockets;
 use mg_ports::PortFault;
 
-/// The number of sockets that a gateway has: the control socket, and one media socket for each termination.
+/// The maximum number of sockets that a session uses: one control socket, and one media socket for each termination.
 pub const SOCKETS: usize = TERMINATIONS + 1;
 
 /// The sockets at which a datagram may be waiting.
 ///
 /// When a datagram arrives, its socket is reported once. So a datagram may be waiting there from then on, until a
-/// receive finds no datagram. Nothing else makes the socket empty: neither a limit on datagrams per poll nor a failed
-/// receive.
+/// receive finds no datagram. Nothing else clears the socket's entry: neither a limit on datagrams per poll nor a
+/// failed receive.
 pub(crate) type Ready = [bool; SOCKETS];
 
 /// A datagram may be waiting at every socket.
@@ -75,7 +75,7 @@ fn receive_from<H: Sockets>(
     answer
 }
 
-/// Receives from a socket, or returns `None` if no datagram may be waiting there.
+/// Receives from a socket, or returns `None` if no datagram can be waiting there.
 fn receive_if_ready<H: Sockets>(
     host: &mut H,
     ready: &mut Ready,
@@ -94,7 +94,7 @@ fn receive_if_ready<H: Sockets>(
     Ok(None)
 }
 
-/// Receives from a socket, or returns `None` if no datagram may be waiting there. Before the control socket's turn,
+/// Receives from a socket, or returns `None` if no datagram can be waiting there. Before the control socket's turn,
 /// asks the host at which sockets datagrams have arrived.
 pub(crate) fn receive_reported<H: Sockets>(
     host: &mut H,

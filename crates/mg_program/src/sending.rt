@@ -18,7 +18,7 @@ fn is_unusable(address: [u8; 4]) -> bool
 }
 
 /// Returns the reason why a datagram isn't sent, or `None` if it is sent. A packet from a media socket is sent only in
-/// a tick that is on time, and only to a unicast address.
+/// a tick that is on time, and only to an address that a caller can have.
 fn unsent_cause(timing: Timing, socket: usize, to: Peer) -> Option<Unsent>
     ensures value { (ready : List Bool) (bytes : List ℕ) → MatchOption result
         (MayCall (knows timing ready false) (OnPorts (Send socket to bytes)))
@@ -44,7 +44,8 @@ fn count_unsent(cause: Unsent, causes: &mut FailureCauses) {
     }
 }
 
-/// Sends a datagram, unless its tick is late or its destination can't be used. Counts a failure by its cause.
+/// Sends a datagram. A packet from a media socket isn't sent if its tick is late or its destination can't be used.
+/// Counts a failure by its cause.
 pub(crate) fn send_in_time<H: Sockets>(
     host: &mut H,
     timing: Timing,

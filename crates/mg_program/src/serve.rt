@@ -115,7 +115,8 @@ fn serve_on_sockets<
 }
 
 /// Runs a gateway on UDP ports, driven by input lines. The gateway is new, or it resumes from the journal. A fault is
-/// reported to `errors`. Periodic reports, if they are enabled, go to `reports`.
+/// reported to `errors`. If the gateway resumes, `reports` receives a line about this. Then it receives the lines that
+/// [`Reports`] prints.
 ///
 /// An invalid configuration is reported before a port is bound. A port that can't be bound is reported before a line is
 /// read, and before anything is appended to the journal.

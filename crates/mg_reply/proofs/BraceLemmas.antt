@@ -25,7 +25,7 @@ IsPassed p = (d : ℕ) (t : List ℕ) → after (suc d) (p ++ t) ≡ after (suc 
 pub passed-append : (p q : List ℕ) → IsPassed p → IsPassed q → IsPassed (p ++ q)
 passed-append p q one two = λ d t. ap (after (suc d)) (append_assoc p q t) ∙ one d (q ++ t) ∙ two d t
 
--- After an opening brace, reading over a part and a closing brace leaves the number of open braces unchanged.
+-- Reading over an opening brace, such a part and a closing brace leaves the number of open braces unchanged.
 pub passed_inside : (p : List ℕ) → IsPassed p → (d : ℕ) (t : List ℕ) →
     after (suc (suc d)) ((p ++ codes "}") ++ t) ≡ after (suc d) t
 passed_inside p one d t = ap (after (suc (suc d))) (append_assoc p (codes "}") t) ∙ one (suc d) (codes "}" ++ t)

@@ -1,4 +1,5 @@
--- If there are more items than a reply has room for, their text exceeds the limit.
+-- If there are more items than a reply has room for, and each is at least 10 bytes long with its comma, their text
+-- exceeds the limit.
 use Rattle.std.proofs.Common.{◌≡◌, ℕ, ◌+◌, ◌-◌, ◌*◌, ◌<◌, ◌≤◌, Bool, true, false, ◌&&◌, ◌||◌, not, cond, eqb, inl, inr, List, [], ◌∷◌, ◌++◌, length, refl, sym, subst, ap, ◌∙◌, append_assoc, length-append, arith, codes, decimal}
 use Rattle.std.specs.Prelude.{nat_le}
 use Rattle.std.specs.List.{list_all}

@@ -50,7 +50,7 @@ with_item r item size =
     }
 
 -- The reply after an item is put into it. The end of an action takes no place if the action has items. Any other item
--- takes one place. If no place is left, the item is dropped and the reply is marked as too long.
+-- takes one place. If an item needs a place and none is left, the item is dropped and the reply is marked as too long.
 abbrev pub after_put : Answered → Item → Answered
 after_put r item =
     if is_action item && r.has_pending then with_item r item 0

@@ -12,7 +12,7 @@ has_terms (Triple a b association) = is_term a && is_term b
 has_terms (Command word term outcome) = is_term term
 has_terms _ = true
 
--- No reply's text is a proper prefix of another reply's text.
+-- No reply's text is a proper prefix of another reply's text, if the names in both are valid.
 abbrev pub NoProperPrefix : Type 0
 NoProperPrefix =
     (n m : ℕ) (xs ys : List Item) (rest : List ℕ)

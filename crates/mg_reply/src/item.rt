@@ -10,9 +10,9 @@ use mg_words::{Association, CommandWord, ContextId, ErrorNumber, Term};
 /// A part of a reply.
 #[derive(Drop)]
 pub enum Item {
-    /// Two terminations of the action's context, and which of them hears the other.
+    /// Two terminations of the action's context, and who hears whom.
     Triple(RtpName, RtpName, Association),
-    /// A command that was tried, the termination that it names, and its outcome.
+    /// A command that was tried, the name of its termination, and its outcome.
     Command(CommandWord, Term, Outcome),
     /// The error for a rejected action or, if this is the only item, for the whole request.
     Fault(ErrorNumber),

@@ -63,7 +63,7 @@ impl Reply {
         self.is_long = false;
     }
 
-    /// Appends an item. If there is no room, the item is dropped and the reply is marked as too long.
+    /// Appends an item. If there is no room for the item, it is dropped and the reply is marked as too long.
     #[tactic(auto, using(crate::proofs::ReplyLemmas::last_items))]
     pub fn put(&mut self, item: Item)
         ensures value { self.new ≡ after_put self.old item }

@@ -16,7 +16,7 @@ use crate::reply::Reply;
 use itoa::Buffer;
 use mg_words::{ADDRESS_LIMIT, ERROR_LIMIT, ErrorNumber, address_text};
 
-/// The text of the reply would exceed 16,000 bytes. Nothing was written.
+/// The reply had no room for an item, or its text would exceed 16,000 bytes. Nothing was written.
 #[derive(Clone, Copy, Debug, PartialEq, Eq)]
 pub struct TooLong;
 

@@ -66,7 +66,7 @@ at_slot_past a s kept le =
     sym (find_spot (λ r. r.number) (λ r. r.slot) a.next_termination a.limits.slots a.slots.items s kept.slots ∙
     ap entry_at (slice_get_past a.slots.items s le))
 
--- If the table has an empty room, the new context gets this room.
+-- If a context number is left, a new context gets the first empty room of the table.
 pub place_some : (a : Inside) (room : ℕ) → HasTables a → Some room ≡ position_from is_none 0 a.rooms.items →
     a.next_context ≤ LAST_CONTEXT → Ok (record { context = a.next_context; seat = 0; made = Some room }) ≡
     new_context (registry_of a)

@@ -112,8 +112,8 @@ room_left w d n c y h after = changed_room d c (λ x. with_members x (without n 
 
 -- ## Outcomes
 
--- If only the termination n and the contexts c and d change, slots, seats and rooms are kept. All other terminations
--- and contexts are unchanged.
+-- If the termination n keeps its slot and its seat, each context keeps its room, and only n and the contexts c and d
+-- change, then `Lasts` and `LeavesOthers` hold.
 lasting : (w after : Registry) (n c d : ℕ)
     → ((m : ℕ) → (n == m) ≡ false → record_at after m ≡ record_at w m)
     → ((r s : Record) → record_at w n ≡ Some r → record_at after n ≡ Some s →

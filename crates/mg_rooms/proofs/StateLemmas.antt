@@ -47,7 +47,7 @@ context_within w c x h found = (
   all-found (IsContext w.limits w.next_context) (λ y. y.number == c) w.contexts x h.contexts.each found,
 )
 
--- If a test counts at least one item, it finds an item.
+-- If at least one item passes a test, a search with the test finds an item.
 counted_found : {A : Type 0} (p : A → Bool) (xs : List A) → 1 ≤ count_by p xs → (x : A) × (find p xs ≡ Some x)
 counted_found p [] h = absurd (omega arith)
 counted_found p (x ∷ xs) h =

@@ -1,5 +1,5 @@
--- How a command changes a termination's settings (RFC 3525, section 7.1.4 to 7.1.8). Settings that
--- a command does not name are unchanged. The limits on the depth are this project's own.
+-- How a command changes a termination's settings (RFC 3525, sections 7.1.4 to 7.1.8). Settings that a command does not
+-- name are unchanged. The limits on the depth are this project's own.
 use Rattle.std.specs.Prelude.{ℕ, min, max, List, [], ◌∷◌, Option, Some, None, Result, Ok, Err}
 use Rattle.std.specs.Option.{option_map_or}
 use Rattle.mg_sdp.specs.declared.offer.Offer.{Offer}

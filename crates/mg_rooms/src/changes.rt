@@ -63,7 +63,8 @@ impl Tables {
         }
     }
 
-    /// Adds a termination to a context, in a free place.
+    /// Adds a termination to a context at the given place. If `place` has a room for a new context, creates the
+    /// context.
     pub(crate) fn enter(&mut self, place: EntryPlace, number: u32)
         requires can { CanEnter self.old place }
         ensures value { self.new ≡ entered self.old place number }

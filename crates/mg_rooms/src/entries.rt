@@ -11,7 +11,7 @@ use crate::record::Record;
 use mg_words::MEMBERS;
 use std::alloc::{AllocError, Global};
 
-/// Creates a table of empty entries. Fails only if the allocation fails.
+/// Creates a table of empty entries. Fails only if an allocation fails.
 pub fn empty_table<T: Drop>(alloc: Global, len: usize) -> Result<Vec<Option<T>>, AllocError>
     ensures value { IfOk result (λ table. table.items ≡ replicate len None) }
 {

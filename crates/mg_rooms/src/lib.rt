@@ -19,10 +19,10 @@
 //! [`Rooms::new`] allocates all memory; no other call allocates.
 //!
 //! In contracts, a [`Rooms`] appears as a registry: the terminations and contexts in numerical order
-//! (`specs/Registry.antt`). The contract of each call states the outcome of its command on that registry
-//! (`specs/Outcome.antt`). It also states that the new registry is sound (`specs/aids/Sound.antt`), and what the call
-//! leaves unchanged (`specs/aids/Lasting.antt`). Each call returns the termination, together with the room of its
-//! context. [`theorems`] states when a resource is exhausted.
+//! (`specs/Registry.antt`). The contract of each command states its outcome on that registry (`specs/Outcome.antt`). It
+//! also states that the new registry is consistent (`specs/Consistent.antt`), and what the command leaves unchanged
+//! (`specs/aids/Lasting.antt`). Each command returns the termination, together with the room of its context.
+//! [`theorems`] states when a resource is exhausted.
 #![tactic(auto)]
 
 mod changes;

@@ -43,7 +43,7 @@ impl Rooms {
 
     /// Creates a gateway without terminations or contexts.
     ///
-    /// Fails only if the allocation fails. No other call allocates.
+    /// Fails only if an allocation fails. No other call allocates.
     pub fn new(alloc: Global, limits: Limits) -> Result<Rooms, AllocError>
         requires valid { AreValidLimits limits }
         ensures start { IfOk result (λ rooms. rooms ≡ start_of limits) }

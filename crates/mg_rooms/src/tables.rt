@@ -41,7 +41,7 @@ impl Model for Tables {
 }
 
 impl Tables {
-    /// Creates empty tables. Fails only if the allocation fails.
+    /// Creates empty tables. Fails only if an allocation fails.
     pub(crate) fn new(alloc: Global, limits: Limits) -> Result<Tables, AllocError>
         requires valid { AreValidLimits limits }
         ensures value { IfOk result (λ tables. tables ≡ start_of limits) }

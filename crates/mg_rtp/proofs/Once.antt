@@ -1,4 +1,4 @@
--- Bytes are either exactly one packet or have exactly one fault.
+-- Bytes are at most one packet or have at most one fault, but not both.
 use Rattle.std.proofs.Common.{◌≡◌, ℕ, ◌*◌, ◌/◌, ◌^◌, ◌<◌, ◌≤◌, Bool, true, false, List, [], ◌++◌, length, get_or, take, drop, Result, Ok, Err, refl, sym, ap, subst, ◌∙◌, append_assoc, arith, inl, inr}
 use Rattle.std.proofs.lemmas.List.{length-append}
 use Rattle.byteorder.specs.Endian.{big_bytes, big_number}
@@ -31,7 +31,7 @@ bit_once false true e = absurd (omega (arith, e))
 bit_once true false e = absurd (omega (arith, e))
 bit_once true true e = refl
 
--- Layouts with the same first byte are equal.
+-- Layouts with the same first byte are equal, if each of them counts fewer than 16 sources.
 layout_once : (l m : Layout) → l.source_count < 16 → m.source_count < 16 → first_byte l ≡ first_byte m → l ≡ m
 layout_once l m p q e =
     let la = bit_le l.is_padded in
@@ -52,7 +52,7 @@ number_once n x y p q e =
     sym (big_number-reads_back n x [] p) ∙ ap (λ (bytes : List ℕ). big_number n (bytes ++ [])) e ∙
     big_number-reads_back n y [] q
 
--- Headers with the same bytes are equal.
+-- Headers with the same bytes are equal, if their fields fit in their bits.
 header_once : (h k : Header) → IsHeader h → IsHeader k → second_byte h ≡ second_byte k
     → big_bytes 2 h.sequence ≡ big_bytes 2 k.sequence → big_bytes 4 h.timestamp ≡ big_bytes 4 k.timestamp →
     big_bytes 4 h.ssrc ≡ big_bytes 4 k.ssrc → h ≡ k

@@ -18,7 +18,7 @@ pub err_outcome : (bytes : List ℕ) (r : Result Packet RtpFault) (fault : RtpFa
     IsFault bytes fault → IsOutcome bytes r
 err_outcome bytes r fault e h = subst (IsOutcome bytes) (sym e) h
 
--- The bytes are the packet that is returned.
+-- If a packet is returned, the bytes are that packet.
 pub found_packet : (bytes : List ℕ) (r : Result Packet RtpFault) → IsOutcome bytes r →
     IfOk r (λ packet. IsPacket bytes packet.header packet.payload.now)
 found_packet bytes (Ok packet) a = a

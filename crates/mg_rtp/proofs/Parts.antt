@@ -94,7 +94,8 @@ second_of second lt =
     second refl lt in
     eqb-true _ _ all
 
--- Bytes start with the header that is read from their first twelve bytes.
+-- If there are at least twelve bytes and the version is 2, the bytes start with the header that is read from the first
+-- twelve bytes.
 pub begins_at : (bytes head rest : List ℕ) (h : Header) → IsBytes bytes → 12 ≤ length bytes → head ≡ take 12 bytes →
     rest ≡ drop 12 bytes → get_or head 0 0 / 64 ≡ 2
     → head ≡ get_or head 0 0 ∷ field_bytes h → IsHeader h → Begins bytes (layout_of (get_or head 0 0)) h rest

@@ -9,8 +9,8 @@ use Rattle.mg_rtp.specs.declared.rtp_fault.RtpFault.TheVariants.{Short, Version,
 use Rattle.mg_rtp.specs.Header.{Layout}
 use Rattle.mg_rtp.specs.Packet.{Begins, AreSources, IsExtension}
 
--- The bytes end before the four bytes that start an extension, or before the words that the last two of these four
--- bytes count.
+-- The bytes end before the end of the four bytes that start an extension, or before the end of the words that the last
+-- two of these four bytes count.
 abbrev pub EndsInExtension : List ℕ → Type 0
 EndsInExtension rest = (length rest < 4) ⊎ (length rest < 4 + 4 * big_number 2 (drop 2 rest))
 
@@ -20,7 +20,7 @@ HasBadPadding rest =
     let count = slice_index rest (length rest - 1) in
     (rest ≡ []) ⊎ (count ≡ 0) ⊎ (length rest < count)
 
--- After these sources and this extension, the rest does not start with the next part, because of this fault.
+-- The rest after these sources and this extension does not contain the next part, because of this fault.
 abbrev pub IsFaultyPart : Layout → (sources extension rest : List ℕ) → RtpFault → Type 0
 IsFaultyPart layout sources extension rest Short =
     (sources ≡ []) × (extension ≡ []) × (length rest < 4 * layout.source_count)

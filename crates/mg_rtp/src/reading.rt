@@ -30,7 +30,7 @@ const MARKER: u8 = 0x80;
 /// The payload starts after the header, the contributing sources and the extension, which are skipped. It ends before
 /// the padding.
 pub fn read(bytes: &[u8]) -> Result<Packet<'_>, RtpFault>
-    // The datagram is the packet that is returned.
+    // If a packet is returned, the datagram is that packet.
     ensures found { IfOk result (λ packet. IsPacket bytes.now packet.header packet.payload.now) }
     // If the datagram is a packet, that packet is returned.
     ensures only { (header : Header) (payload : List ℕ) → IsPacket bytes.now header payload →

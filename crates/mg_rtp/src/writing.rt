@@ -24,7 +24,8 @@ pub fn write(header: Header, payload: &[u8; PAYLOAD_LEN]) -> [u8; PACKET_LEN]
     bytes
 }
 
-/// Overwrites a packet's header, with no padding, extension or contributing sources. The payload is unchanged.
+/// Overwrites a packet's header with this header, which announces no padding, extension or contributing sources. The
+/// payload is unchanged.
 pub fn write_header(header: Header, bytes: &mut [u8; PACKET_LEN])
     requires seven_bits { header.payload_type < 128 }
     ensures bytes { bytes.new ≡ header_bytes plain header ++ drop 12 bytes.old }

@@ -20,7 +20,8 @@ abbrev pub escaped_at : Bool → List ℕ → ℕ → Bool
 escaped_at escaped bs zero = escaped
 escaped_at escaped bs (suc n) = get_or bs n 0 == 92
 
--- The length of content that has a brace at position n. The content ends there, or continues if the brace is escaped.
+-- The length of content whose first closing brace is at position n. The content ends there, or continues if the brace
+-- is escaped (the flag).
 abbrev pub at_brace : Bool → List ℕ → ℕ → Option ℕ
 at_brace false bs n = Some n
 at_brace true bs n = moved (n + 1) (content_len false (drop (n + 1) bs))
@@ -45,7 +46,7 @@ here true b bs e ne = rw (e, ne) refl
 no_backslash : (b : ℕ) → (b == 125) ≡ true → (b == 92) ≡ false
 no_backslash b e = rw (eqb-true b 125 e) refl
 
--- If the first brace in the bytes is at position n, the length of the content is `at_brace` of n.
+-- If the first closing brace in the bytes is at position n, the length of the content is `at_brace` of n.
 pub first_brace : (escaped : Bool) (bs : List ℕ) (n : ℕ) → n < length bs →
     ((k : ℕ) → k < n → (get_or bs k 0 == 125) ≡ false) → (get_or bs n 0 == 125) ≡ true →
     content_len escaped bs ≡ at_brace (escaped_at escaped bs n) bs n

@@ -157,7 +157,7 @@ after_joins named (b ∷ bs) x e =
       | inr other ↦ token_joins (b ∷ bs) x other.1
     ]
 
--- The bytes are white space, the spelling of the first token, and the rest.
+-- If the bytes have a first token, they are white space, the token's spelling, and the rest.
 pub first_joins : (named : Bool) (bytes : List ℕ) (x : TokenAndRest) → first_token named bytes ≡ Some (Ok x) →
     (white : List ℕ) × IsWhite false white × (bytes ≡ white ++ (spelled x.piece.kind x.piece.text ++ x.rest))
 first_joins named bytes x e =

@@ -50,11 +50,11 @@ abbrev pub closed_at : List ℕ → List ℕ → Option (Result TokenAndRest Sca
 closed_at text [] = Some (Err OpenQuote)
 closed_at text (b ∷ bs) = if b == 34 then token_and_rest Quoted text bs else Some (Err OpenQuote)
 
--- The quoted text after an opening quotation mark.
+-- The quoted text after an opening quotation mark, or a fault if no quotation mark closes the text.
 abbrev pub quoted_at : List ℕ → Option (Result TokenAndRest ScanFault)
 quoted_at bs = let n = position_or_len is_quote_end bs in closed_at (take n bs) (drop n bs)
 
--- The token that starts at the first byte.
+-- The token that starts at the first byte, or a fault. It is `None` if there are no bytes.
 unfoldable pub token_at : List ℕ → Option (Result TokenAndRest ScanFault)
 token_at [] = None
 token_at (b ∷ bs) =
@@ -67,8 +67,8 @@ token_at (b ∷ bs) =
     else (if b == 34 then quoted_at bs
     else Some (Err BadByte))))))
 
--- The number of bytes before the brace that closes a session description, which is the first brace without a backslash
--- in front of it. The flag says whether the byte before the list is a backslash.
+-- The number of bytes before the brace that closes a session description, which is the first closing brace without a
+-- backslash in front of it. The flag says whether the byte before the list is a backslash.
 unfoldable pub content_len : Bool → List ℕ → Option ℕ
 content_len escaped [] = None
 content_len escaped (b ∷ bs) =
@@ -86,11 +86,12 @@ octets_closed bs (Some n) =
     if has_null (take n bs) then Some (Err BadByte)
     else token_and_rest Octets (take n bs) (drop (n + 1) bs)
 
--- The session description after an opening brace.
+-- The session description after an opening brace, or a fault.
 abbrev pub octets_at : List ℕ → Option (Result TokenAndRest ScanFault)
 octets_at bs = octets_closed bs (content_len false bs)
 
--- The token that starts at the first byte. The flag says whether the token before it announces a session description.
+-- The token that starts at the first byte, or a fault. The flag says whether the token before it announces a session
+-- description.
 unfoldable pub token_after : Bool → List ℕ → Option (Result TokenAndRest ScanFault)
 token_after named [] = None
 token_after named (b ∷ bs) = if named && b == 123 then octets_at bs else token_at (b ∷ bs)
@@ -102,7 +103,8 @@ names_octets Word text =
     || str_eq_ignore_ascii_case text (codes "Remote") || str_eq_ignore_ascii_case text (codes "R")
 names_octets _ text = false
 
--- The first token after white space. The flag says whether the last token announces a session description.
+-- The first token after white space, or a fault. The flag says whether the token before it announces a session
+-- description.
 abbrev pub first_token : Bool → List ℕ → Option (Result TokenAndRest ScanFault)
 first_token named bytes = token_after named (after_white false bytes)
 

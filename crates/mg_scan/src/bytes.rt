@@ -28,7 +28,7 @@ pub fn word_len(bytes: &[u8]) -> usize
     bytes.iter().take_while(|b| is_word_byte(**b)).count()
 }
 
-/// Returns the length in bytes of a comment, up to its line end.
+/// Returns the length in bytes of the rest of a comment, up to its line end or the end of the bytes.
 fn comment_len(bytes: &[u8]) -> usize
     ensures in_range { result ≤ length bytes.now }
     ensures value { result ≡ position_or_len is_line_end bytes.now }

@@ -28,7 +28,7 @@ fn quoted_at(bytes: &[u8]) -> Option<Result<Found, ScanFault>>
     }
 }
 
-/// Returns the token that the bytes start with, or `None` if there are no bytes.
+/// Returns the token that the bytes start with, or a fault. Returns `None` if there are no bytes.
 #[tactic(auto, unfolding(crate::specs::Tokens::token_at))]
 fn token_at(bytes: &[u8]) -> Option<Result<Found, ScanFault>>
     ensures { FindsAs bytes.now (token_at bytes.now) result }
@@ -79,8 +79,8 @@ fn octets_at(bytes: &[u8]) -> Option<Result<Found, ScanFault>>
     }))
 }
 
-/// Returns the token that the bytes start with, or `None` if there are no bytes. `named` says whether the previous
-/// token announces a session description.
+/// Returns the token that the bytes start with, or a fault. Returns `None` if there are no bytes. `named` says whether
+/// the previous token announces a session description.
 #[tactic(auto, unfolding(crate::specs::Tokens::token_after))]
 pub fn token_after(named: bool, bytes: &[u8]) -> Option<Result<Found, ScanFault>>
     ensures { FindsAs bytes.now (token_after named bytes.now) result }

@@ -11,7 +11,7 @@ pub enum TokenKind {
     Equals,
     /// Text between quotation marks, on one line. Its span excludes the quotation marks.
     Quoted,
-    /// The session description in braces after `Local` or `Remote`. Its span excludes the braces. A closing brace
-    /// inside it has a backslash in front of it.
+    /// The session description in braces after `Local` or `Remote`, in long or short form. Its span excludes the
+    /// braces. A closing brace inside it has a backslash in front of it.
     Octets,
 }

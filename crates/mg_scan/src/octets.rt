@@ -8,7 +8,7 @@ const ESCAPE: u8 = b'\\';
 
 /// Returns how many bytes precede the brace that closes a session description, or `None` if no brace closes it.
 ///
-/// The closing brace is the first brace that has no backslash in front of it.
+/// The closing brace is the first `}` that has no backslash in front of it.
 pub fn content_len(bytes: &[u8]) -> Option<usize>
     ensures in_range { IfSome result (λ n. n < length bytes.now) }
     ensures value { result ≡ content_len false bytes.now }

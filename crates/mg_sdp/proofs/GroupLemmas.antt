@@ -64,7 +64,8 @@ each : (lines current : List (List ℕ)) → IsBegun current →
 each [] current h = rw (← append-nil (one_alternative current)) (each_closing current [] h tt)
 each (line ∷ lines) current h = each_step current line lines (is_version line) refl h (each lines)
 
--- By these lemmas, if the first alternative starts with a v= line, so do all the other alternatives.
+-- By these lemmas, each alternative after the first starts with a v= line. If the first one does, too, all alternatives
+-- do.
 begin_step : (first : List ℕ) (rest : List (List ℕ)) (line : List ℕ) (lines : List (List ℕ)) (version : Bool) →
     is_version line ≡ version → IsTrue (is_version first)
     → ((first' : List ℕ) (rest' : List (List ℕ)) → IsTrue (is_version first') →

@@ -1,5 +1,5 @@
--- The alternatives of a descriptor (RFC 3525, section 7.1.8): descriptions one after another, each
--- starting with its v= line.
+-- The alternatives of a descriptor (RFC 3525, section 7.1.8): descriptions one after another, each starting with its v=
+-- line, which only the first may lack.
 use Rattle.std.specs.Prelude.{◌≡◌, ℕ, not, nat_lt, Bool, List, [], ◌∷◌, IsTrue, Option, is_some}
 use Rattle.std.specs.Prelude.{Result, Ok, Err, map, length, drop, if◌then◌else◌}
 use Rattle.std.specs.List.{list_all, flat_map, AllByRecursion}

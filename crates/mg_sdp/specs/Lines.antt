@@ -37,7 +37,7 @@ letter_and_value _ = None
 abbrev pub is_line : List ℕ → Bool
 is_line line = is_some (letter_and_value line)
 
--- The value of a line with this letter.
+-- The value of a line, if the line has this letter.
 abbrev pub line_value : ℕ → List ℕ → Option (List ℕ)
 line_value letter line =
     option_and_then (λ parts. if parts.0 == letter then Some parts.1 else None)

@@ -16,7 +16,7 @@ abbrev pub requested_in_field : {X : Type 0} → (List ℕ → Option X) → Lis
 requested_in_field read field =
     if bytes_eq field (codes "$") then Some None else option_map Some (read field)
 
--- The law of a format: mu-law for 0, A-law for 8.
+-- The law of a format: mu-law for 0, A-law for 8, and `Some None` for $.
 unfoldable pub law_of : List ℕ → Option (Option Law)
 law_of format =
     if bytes_eq format (codes "0") then Some (Some Mu)

@@ -1,5 +1,5 @@
--- What an alternative offers. This project's profile of RFC 4566, sections 5.1 (v=), 5.7 (c=), 5.14
--- (m=) and 6 (a=ptime), decides which lines are supported. All other lines are ignored.
+-- What an alternative offers. This project's profile of RFC 4566, sections 5.1 (v=), 5.7 (c=), 5.14 (m=) and 6
+-- (a=ptime), decides which lines are supported. Lines of other kinds are ignored.
 use Rattle.std.specs.Prelude.{ℕ, ◌&&◌, ◌||◌, not, nat_eq, Bool, List, [], ◌∷◌, Option, Some, None}
 use Rattle.std.specs.Prelude.{codes, if◌then◌else◌}
 use Rattle.std.specs.Str.{byte, bytes_eq}

@@ -2,10 +2,10 @@
 //!
 //! The formats follow RFC 4566 and RFC 3525, section 7.1.8.
 //!
-//! The content of a descriptor has one or more alternatives. [`read_sessions`] returns what each of them offers. It
-//! accepts at most eight alternatives, and does not allocate. [`choose`] and [`choose_remote`] return the first offer
-//! that the gateway can accept. The gateway supports G.711 (RFC 3551, payload types 0 and 8) in packets of 20 ms over
-//! RTP. [`write_local`] and [`write_remote`] write the choice:
+//! The content of a descriptor has one or more alternatives, or none if it is blank. [`read_sessions`] returns what
+//! each of them offers. It accepts at most eight alternatives, and does not allocate. [`choose`] and [`choose_remote`]
+//! return the first offer that the gateway can accept. The gateway supports G.711 (RFC 3551, payload types 0 and 8) in
+//! packets of 20 ms over RTP. [`write_local`] and [`write_remote`] write the choice:
 //!
 //! ```rust
 //! let sessions = read_sessions(b"v=0\nc=IN IP4 $\nm=audio $ RTP/AVP 18 8 0\n")?;

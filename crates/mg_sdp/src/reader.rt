@@ -72,7 +72,7 @@ impl Reader {
         Ok(())
     }
 
-    /// Returns the alternatives after the last line.
+    /// Ends reading. Returns what the alternatives offer, or a fault if there are more than eight.
     #[tactic(auto, unfolding(crate::specs::aids::Reader::finished))]
     fn finish(mut self) -> Result<Sessions, SdpFault>
         ensures value { result ≡ finished self }

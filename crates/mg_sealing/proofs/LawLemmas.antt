@@ -41,8 +41,7 @@ lines_none (suc most) seals number before (b ∷ bs) none =
 
 -- ## Lines that are read
 
--- In the rest of a text after `before`, which is `tail`, no seal is invalid. This holds from some state of the check
--- on.
+-- `tail` is the rest of a text after `before`. From some state of the check on, no seal in it is invalid.
 record Later (before tail : List ℕ) : Type 0 where
   most : ℕ
   seals : Seals

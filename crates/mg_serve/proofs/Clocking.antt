@@ -130,7 +130,8 @@ one_step_more form setup first s v count step c d e old mid core x y z h begins 
 
 -- ## The end of a run by the clock
 
--- If the clock fails, can't reach the next tick, or has taken the maximum number of steps, the run ends with `Read`.
+-- If the clock fails or can't reach the next tick, or if the maximum number of steps was taken, the run ends with
+-- `Read`.
 pub clock_fails : (form : Form) (setup : Setup) (allowed count : ℕ) (s : TickSchedule) (c d e : ClockSeen)
     (fails : Type 0) (old core : CoreState) (x z : Outside) →
     LeadsByTrace old core x z (StepsDone setup (record { ticks = 0; allowed = allowed; messages = 0 }) count c d s) →

@@ -1,4 +1,5 @@
--- A message is not run if an earlier message with a higher number was run.
+-- Behind a fence, a message is not run if an earlier message with a higher number was run since an operator last set
+-- the fence.
 use Rattle.std.proofs.Common.{◌≡◌, ℕ, ◌≤◌, max, true, List, [], ◌∷◌, ◌++◌, map, Option, Some, None, refl, sym, ap, subst, ◌∙◌, arith, unwrap_or}
 use Rattle.std.specs.Option.{option_map}
 use Rattle.std.proofs.lemmas.Bool.{leb-true}
@@ -20,7 +21,7 @@ one_number : ReadingsAreUnique → (bytes : List ℕ) (a b : Option ℕ) → Has
 one_number unique bytes a b (p, reads, is) (q, too, same) =
     is ∙ ap (λ (r : Parsed). number_in bytes r) (unique bytes p q reads too) ∙ sym same
 
--- If a message passes a fence that has reached at least `n`, the number of the message is at least `n`.
+-- If a message with a number passes a fence that has reached at least `n`, the number of the message is at least `n`.
 not_below : (n m : ℕ) (f : Fence) (bytes : List ℕ) (number : Option ℕ) → n ≤ f.reached →
     passes (Some f) bytes number ≡ true → number ≡ Some m → n ≤ m
 not_below n m f bytes None least passed is = absurd cc

@@ -1,4 +1,4 @@
--- A crash loses speech and a few ticks, and nothing else.
+-- A crash loses received RTP and a few ticks, and nothing else.
 use Rattle.std.proofs.Common.{◌≡◌, ◌⊎◌, inl, inr, ℕ, zero, suc, List, [], ◌∷◌, ◌++◌, map, replicate, refl, sym, subst, append-nil, arith}
 use Rattle.mg_journal.specs.declared.durability.Durability.{Durability}
 use Rattle.mg_journal.specs.Journal.{JournalState}

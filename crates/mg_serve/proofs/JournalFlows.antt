@@ -1,4 +1,4 @@
--- A journal shows who heard whom.
+-- A journal shows who could hear whom.
 use Rattle.std.proofs.Common.{◌≡◌, ◌⊎◌, inl, inr, ℕ, zero, suc, ◌≤◌, List, [], ◌∷◌, ◌++◌, length, replicate, refl, sym, ap, subst, ◌∙◌, append_assoc, append-nil, arith}
 use Rattle.mg_words.specs.declared.peer.Peer.{Peer}
 use Rattle.mg_engine.specs.Flow.{flow}
@@ -81,7 +81,7 @@ keeps_front lacking past later written loses =
     keeps_as lacking before after (without_rtp (events_of_trace (past ++ later))) written end loses is
     (apart before after loses.kept (replicate loses.ticks Tick) (sym (quiet_both past later) ∙ loses.lost))
 
--- ## A journal shows who heard whom
+-- ## A journal shows who could hear whom
 
 same_flows : (a b c : World) → HaveSameFlows a b → HaveSameFlows b c → HaveSameFlows a c
 same_flows a b c one other talker listener = one talker listener ∙ other talker listener

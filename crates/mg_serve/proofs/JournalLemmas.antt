@@ -116,7 +116,7 @@ calls_journaled d n (BeginTick timing ∷ calls) quiet =
     (idle_journaled d n (Called (BeginTick timing)) refl) (calls_journaled d n calls quiet)
 calls_journaled d n (Append lines durability result ∷ calls) quiet = absurd cc
 
--- After one more tick, the journal lacks one more tick.
+-- After one more tick, the journal lacks one more tick, if there is a journal.
 pub tick_journaled : (d : Option Durability) (n : ℕ) →
     IsJournaled d n (Happened events.Tick ∷ []) (after_one_tick d n)
 tick_journaled None n = (refl, refl)

@@ -239,7 +239,7 @@ cut_read_back law setup title commands next p front rest valid h parts =
     events_in_both (entry.Happened event ∷ es) fs = ap (λ (l : List Event). event ∷ l) (events_in_both es fs)
     events_in_both (entry.Noted text ∷ es) fs = events_in_both es fs
 
--- A list of events has one outcome in each world.
+-- A list of events has at most one outcome in each world.
 abbrev pub OneOutcome : Type 0
 OneOutcome = (w : World) (events : List Event) (a b : List Sent) (x y : World) → Run w events a x → Run w events b y
     → (a ≡ b) × (x ≡ y)

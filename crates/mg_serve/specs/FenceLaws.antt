@@ -10,8 +10,9 @@ use Rattle.mg_fence.specs.Reached.{Reaches}
 use Rattle.mg_serve.specs.Fenced.{IsFenced}
 use Rattle.mg_serve.specs.Trace.{TraceEntry, Happened, events_of_trace}
 
--- If a message is run, its number is at least that of every earlier message that was run since an operator last set the
--- fence. Earlier messages include those in the journal from earlier lives of the gateway.
+-- If a message with a number is run behind a fence, its number is at least that of every earlier message that was run
+-- since an operator last set the fence. Earlier messages include those in the journal from earlier lives of the
+-- gateway.
 abbrev pub NoLowerNumberIsRun : Type 0
 NoLowerNumberIsRun =
     (start : Fence) (end : Option Fence) (earlier : List Note) (front rest : List TraceEntry)

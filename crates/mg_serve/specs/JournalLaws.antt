@@ -49,7 +49,8 @@ pub record IsMoment (setup : Setup) (durability : Durability) (w : World) (told 
   pub after : JournalAfter (calls_of front) start journal
 
 -- Each prefix of a session's trace ends at a moment. The first two premises say that there is a journal, and what it
--- contained. The others are fields of `Served`, the contract of a server's run. The rest of the trace leads from the journal at this moment to the journal at the end of the run.
+-- contained. The others are fields of `Served`, the contract of a server's run. The rest of the trace leads from the
+-- journal at this moment to the journal at the end of the run.
 abbrev pub EachPartIsAMoment : Type 0
 EachPartIsAMoment =
     (setup : Setup) (durability : Durability) (commands : List Command) (w last : World)
@@ -111,8 +112,8 @@ pub record LosesSpeech (lacking : ℕ) (now resumed : World) : Type 0 where
       × Step before (events.Control source bytes) sent resumed)
 
 -- A crash at a moment of a session, in the world `now`. The journal contains its events from the start, and then the
--- events `written`. These are the events that happened, except for RTP datagrams and lost ticks. A run of all events in
--- the journal ends in the world in which a gateway resumes.
+-- events `written`. These are the events that happened, except for RTP datagrams and lost ticks, and perhaps a message
+-- that was not handled. A run of all events in the journal ends in the world in which a gateway resumes.
 pub record Survives (setup : Setup) (durability : Durability) (w : World) (told : List Event)
     (front : List TraceEntry) (journal : JournalState) : Type 0 where
   pub now : World
@@ -127,9 +128,9 @@ pub record Survives (setup : Setup) (durability : Durability) (w : World) (told 
       → Run (start_of setup.config) (told ++ written) others resumed
       → LosesSpeech (ticks_lacking progress) now resumed
 
--- A crash loses speech and a few ticks, and nothing else. The events of the session's journal lead to some world. The
--- session may start in any world that agrees with this world, except for what was received. A crash during an append
--- has the same effect as a broken append: some of the lines are in the journal.
+-- A crash loses received RTP (speech and its counts) and a few ticks, and nothing else. The events of the session's
+-- journal lead to some world. The session may start in any world that agrees with this world, except for what was
+-- received. A crash during an append has the same effect as a broken append: some of the lines are in the journal.
 abbrev pub CrashesLoseSpeechOnly : Type 0
 CrashesLoseSpeechOnly =
     (setup : Setup) (durability : Durability) (w v : World) (told : List Event) (others : List Sent)
@@ -185,7 +186,7 @@ pub record ResumesAt (config : Config) (w : World) (front : List TraceEntry) (fi
       → Run (start_of config) first others resumed → LosesSpeech 0 then resumed
 
 -- A gateway that resumes from a truncated journal is in the state of some moment before or during the session, except
--- for what was received.
+-- for what was received. It may also have run a message that was announced at that moment.
 abbrev pub CutsResumeAMoment : Type 0
 CutsResumeAMoment =
     (setup : Setup) (durability : Durability) (w v : World) (told : List Event) (others : List Sent)
@@ -228,7 +229,7 @@ pub record TellsFlows (config : Config) (w : World) (told written : List Event)
       → Run (start_of config) (told ++ first) all u
       → (talker listener : ℕ) → flow then.gateway talker listener ≡ flow u.gateway talker listener
 
--- A journal shows who heard whom, at each moment before a crash. `survives` describes the journal after the crash.
+-- A journal shows who could hear whom, at each moment before a crash. `survives` describes the journal after the crash.
 abbrev pub JournalsTellWhoHears : Type 0
 JournalsTellWhoHears =
     (setup : Setup) (durability : Durability) (w v : World) (told : List Event) (others : List Sent)

@@ -63,8 +63,8 @@ IsJournaled None lacking trace left =
 IsJournaled (Some durable) lacking trace left =
     Journals durable (Lacks lacking) trace (Lacks left)
 
--- Appends are tried in time: at most ten ticks happen after an append was tried, whether or not it succeeded. The
--- numbers are those of the ticks since the last try, before and after the trace.
+-- Appends are tried in time: at most ten ticks happen between one try and the next, whether or not the appends succeed.
+-- The numbers are those of the ticks since the last try, before and after the trace.
 abbrev pub Tries : (untried : ℕ) → List TraceEntry → (left : ℕ) → Type 0
 Tries untried [] left = left ≡ untried
 Tries untried (Called (Append lines durability result) ∷ trace) left = Tries 0 trace left

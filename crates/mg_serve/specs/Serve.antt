@@ -80,7 +80,7 @@ pub record ClockCommands (form : Form) (allowed : ℕ) (old new : ClockSeen) (fa
       ((new ≡ now) × (left : List Command) × (commands_of steps ≡ commands ++ left)
       × (length left ≤ 1) × LastPrints form commands)
 
--- The counts match the events of a world.
+-- If the run succeeded, the counts match the events of a world, except for the counts of lines, sends and failures.
 abbrev pub AreCounted : Result Counts RunFault → World → Type 0
 AreCounted (Ok counts) w = record counts { lines = 0; sent = 0; failed = 0 } ≡ counts_of w.tally
 AreCounted (Err fault) w = Unit {0}

@@ -33,7 +33,7 @@ abbrev pub one_line : List ℕ → List ℕ
 one_line text = take 1000 (filter (λ b. not (b == 10)) text)
 
 -- The text that is printed for an entry. In plain form, this is the text for the gateway's driver. In a recording, it
--- is a script line for an event, and otherwise a comment.
+-- is a script line for an event, and a comment for printed or noted text. For any other entry, nothing is printed.
 abbrev pub printed_text : Form → TraceEntry → List ℕ
 printed_text Plain (Printed text) = one_line text ++ codes "\n"
 printed_text Plain _ = []

@@ -17,7 +17,8 @@ use mg_ports::Ports;
 use std::alloc::{AllocError, Global};
 use std::io::Write;
 
-/// Drives a server with a clock: a poll and a tick every 20 ms, and a poll for each message in between.
+/// Drives a server with a clock: a poll and a tick every 20 ms, and polls when messages arrive in between, up to 20
+/// before each tick.
 #[derive(Drop)]
 pub struct ClockDriver<'a, M: Monitor> {
     pub server: Server<'a, M>,
@@ -25,7 +26,7 @@ pub struct ClockDriver<'a, M: Monitor> {
 }
 
 impl<'a, M: Monitor> ClockDriver<'a, M> {
-    /// Creates a driver for a gateway, before the first tick. If a tick is more than `allowed` ticks late, its packets
+    /// Creates a driver for a server, before the first tick. If a tick is more than `allowed` ticks late, its packets
     /// are not sent.
     pub fn new(
         alloc: Global,

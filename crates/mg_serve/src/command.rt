@@ -6,9 +6,9 @@ use mg_clock::Timing;
 /// A command to a gateway.
 #[derive(Clone, Copy, Debug, PartialEq, Eq)]
 pub enum Command {
-    /// Receive the datagrams that arrived at the sockets.
+    /// Receive the datagrams that arrived at the sockets, at most 64 from each socket.
     Poll,
-    /// Advance by 20 ms, and send the packets unless the tick is late.
+    /// Advance by 20 ms, and send the packets. If the tick is late, ports on a network don't send them.
     Tick(Timing),
     /// Print the counts.
     Stats,

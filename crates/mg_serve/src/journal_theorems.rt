@@ -4,7 +4,8 @@ ghost use Rattle.mg_serve.specs.JournalLaws.{EachPartIsAMoment, NothingAnsweredI
 
 /// Every prefix of a session's trace ends at a moment, so the other theorems hold at any time.
 ///
-/// The contracts of [`serve`](crate::serve) and [`serve_by_clock`](crate::serve_by_clock) guarantee the premises.
+/// The contracts of [`serve`](crate::serve) and [`serve_by_clock`](crate::serve_by_clock) guarantee the premises about
+/// the session. The other premises are that there is a journal, and what it contained at the start.
 pub fn each_part_is_a_moment()
     ensures theorem { EachPartIsAMoment }
 {}
@@ -20,7 +21,7 @@ pub fn nothing_answered_is_forgotten()
     mg_core::theorems::recordings_are_read();
 }
 
-/// A crash loses speech and a few ticks, and nothing else.
+/// A crash loses received RTP (speech and its counts) and a few ticks, and nothing else.
 ///
 /// Running the journal's events leads to a world that agrees with the world before the crash, except for received RTP
 /// and the last ticks, which the journal lacked. A message that had been appended, but neither handled nor answered, is
@@ -37,10 +38,10 @@ pub fn crashes_lose_speech_only()
 
 /// A journal describes a moment, wherever it is truncated.
 ///
-/// If a journal is truncated after any byte, for example by a power cut, its complete lines contain the events up to an
-/// earlier moment. These lines may end with a message that had been appended but not handled yet. A gateway that
-/// resumes from these lines is in the state of that moment, except for received RTP. If messages are synced, that
-/// moment isn't earlier than the last answer.
+/// If a journal is truncated after any byte, its complete lines contain the events up to an earlier moment, except for
+/// RTP datagrams. These lines may end with a message that had been appended but not handled yet. A gateway that resumes
+/// from these lines is in the state of that moment, except for received RTP. If messages are synced and the machine
+/// loses power, that moment isn't earlier than the last answer.
 pub fn any_cut_is_a_moment()
     ensures cut { AnyCutIsAMoment }
     ensures resumes { CutsResumeAMoment }

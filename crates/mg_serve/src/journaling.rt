@@ -50,7 +50,8 @@ impl Model for Journaling {
     ghost invariant = { λ j. (j.untried ≤ j.lacking) × (j.untried < 10) };
 }
 
-/// Returns the fence after a message with this number was run, or `None` if there is no fence.
+/// Returns the fence after a message with this number, or without a number, was run. Returns `None` if there is no
+/// fence.
 fn raised_by(number: Option<u32>, fence: Option<Fence>) -> Option<Fence>
     ensures value { result ≡ option_map (raised_by number) fence }
 {
@@ -206,7 +207,8 @@ impl Journaling {
         append(ports, self.line.as_slice(), durability, &mut self.failed)
     }
 
-    /// Counts a tick that has passed. If the journal lacks at least ten ticks, tries one append.
+    /// Counts a tick that has passed. If the journal lacks at least ten ticks, tries one append. Does nothing without a
+    /// journal.
     pub fn end_tick<P: Ports>(&mut self, ports: &mut P)
         requires few { self.old.lacking + 1 < 2 ^ 64 }
         ensures few { self.new.lacking ≤ self.old.lacking + 1 }

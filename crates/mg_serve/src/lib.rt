@@ -1,8 +1,8 @@
 //! A gateway on UDP ports, driven by lines or by a clock.
 //!
-//! The command `poll` receives the datagrams that arrived at the ports, and `tick` advances by 20 ms and sends the
-//! packets. `stats` prints the counts, and `quit` ends the run. The program that writes the lines acts as the gateway's
-//! clock.
+//! The command `poll` receives the datagrams that arrived at the ports (at most 64 from each), and `tick` advances by
+//! 20 ms and sends the packets. `stats` prints the counts, and `quit` ends the run. The program that writes the lines
+//! acts as the gateway's clock.
 //!
 //! ```rust
 //! let counts = serve(alloc, &setup, core, None, &mut ports, &mut input, &mut output, &mut monitor)?;

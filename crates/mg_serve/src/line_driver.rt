@@ -149,7 +149,7 @@ impl<'a, M: Monitor> LineDriver<'a, M> {
         Ok(())
     }
 
-    /// Executes the lines of the input up to the first `quit`.
+    /// Executes the lines of the input, up to the first `quit` or the end of the input.
     pub fn take_all<P: Ports, R: Read, W: Write>(
         &mut self,
         alloc: Global,

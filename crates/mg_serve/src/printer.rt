@@ -103,7 +103,7 @@ impl Printer {
         self.has_failed
     }
 
-    /// Prints that a control datagram arrived.
+    /// Prints that a control datagram arrived, but only in a recording.
     pub fn control<W: Write>(&mut self, source: Peer, bytes: &[u8], writer: &mut W)
         requires short { length bytes.now ≤ DATAGRAM_LIMIT }
         ensures value { Prints self.old self.new (W.contents writer.old) (W.contents writer.new)
@@ -118,7 +118,7 @@ impl Printer {
         }
     }
 
-    /// Prints that an RTP datagram arrived at a media port.
+    /// Prints that an RTP datagram arrived at a media port, but only in a recording.
     pub fn media<W: Write>(&mut self, port: u16, source: Peer, bytes: &[u8], writer: &mut W)
         requires short { length bytes.now ≤ DATAGRAM_LIMIT }
         ensures value { Prints self.old self.new (W.contents writer.old) (W.contents writer.new)
@@ -133,7 +133,7 @@ impl Printer {
         }
     }
 
-    /// Prints that a tick passed.
+    /// Prints that a tick passed, but only in a recording.
     pub fn tick<W: Write>(&mut self, writer: &mut W)
         ensures value { Prints self.old self.new (W.contents writer.old) (W.contents writer.new)
             (Happened events.Tick ∷ []) }

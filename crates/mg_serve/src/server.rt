@@ -41,7 +41,7 @@ use std::io::Write;
 /// The maximum number of datagrams from one socket in a poll.
 const TURN: usize = 64;
 
-/// A gateway that is driven over ports. Each call receives the session's setup as an argument.
+/// A gateway that is driven over ports. Calls that need the session's setup receive it as an argument.
 #[derive(Drop)]
 pub struct Server<'a, M: Monitor> {
     pub core: Core,
@@ -175,7 +175,7 @@ impl<'a, M: Monitor> Server<'a, M> {
     }
 
     /// Drops a control datagram that doesn't pass the fence. Otherwise appends it to the journal, if there is one, then
-    /// runs it and sends its answer.
+    /// runs it and sends its answer, if it has one. Also drops the datagram if memory runs out or the append fails.
     fn take_control<P: Ports, W: Write>(
         &mut self,
         alloc: Global,
@@ -358,7 +358,8 @@ impl<'a, M: Monitor> Server<'a, M> {
         }
     }
 
-    /// Handles the datagrams waiting at the control port, and then those at each media port in ascending order.
+    /// Handles the datagrams waiting at the control port, and then those at each media port in ascending order: at most
+    /// 64 at each port.
     fn poll<P: Ports, W: Write>(
         &mut self,
         alloc: Global,
@@ -383,7 +384,7 @@ impl<'a, M: Monitor> Server<'a, M> {
         }
     }
 
-    /// Advances by 20 ms, and sends the packets unless the tick is late.
+    /// Advances by 20 ms, and sends the packets. If the tick is late, ports on a network don't send them.
     fn tick<P: Ports, W: Write>(
         &mut self,
         setup: &Setup<'_>,

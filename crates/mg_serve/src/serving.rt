@@ -25,22 +25,24 @@ use std::io::{Read, Write};
 /// configuration does not include are not used.
 ///
 /// - `poll` reads at most 64 datagrams from each socket: first from the control socket, then from the media sockets in
-///   ascending order. A control message is answered at once; a message from an address that isn't a controller's is
-///   dropped, and so is a message that doesn't pass the fence. A failed receive ends that socket's turn.
+///   ascending order. A control message that needs an answer is answered at once; a message from an address that isn't
+///   a controller's is dropped, and so is a message that doesn't pass the fence. A failed receive ends that socket's
+///   turn.
 /// - `tick` advances by 20 ms and sends the packets. If a send fails, only that packet is lost.
 /// - `stats` prints `control=a media=b ticks=c sent=d failed=e dropped=f,g,h,i,j,k concealed=l`: [`Counts`] explains
 ///   these numbers. If there is a fence, its number and the count of stale messages follow, as in `fence=17 stale=0`.
-/// - Any other line prints `unknown command`.
+/// - Any other line, except `quit`, prints `unknown command`.
 ///
 /// With a title, the output is a recording: a script with one line for each event (`control`, `rtp` or `tick`), in
-/// order. Its first line is the title, as a comment. Everything else that is printed is a comment too, including a
-/// control datagram that was dropped because memory ran out or an append failed. `run` from `mg_core` runs such a
-/// script again. If printing fails, the current input line is still executed in full, and nothing more is printed.
+/// order. Its first line is the title, as a comment. Everything else that is printed is a comment too, including a note
+/// for each control datagram that was dropped because memory ran out or an append failed. `run` from `mg_core` runs
+/// such a script again. If printing fails, the current input line is still executed in full, and nothing more is
+/// printed.
 ///
-/// If there is a journal, each control message is appended to the journal before the message is handled, and is dropped
-/// if the append fails. Ticks are appended before the next message, and otherwise five times a second. A tick's packets
-/// are sent whether or not appends work. The journal's text contains the session's events, except for RTP datagrams and
-/// for ticks that it still lacks.
+/// If there is a journal, each control message that is accepted is appended to the journal before the message is
+/// handled, and is dropped if the append fails. Ticks are appended before the next message, and otherwise five times a
+/// second. A tick's packets are sent whether or not appends work. The journal's text contains the session's events,
+/// except for RTP datagrams and for ticks that it still lacks.
 ///
 /// Reports datagrams and ticks to the monitor.
 ///

@@ -83,7 +83,7 @@ const CASES: &[Case<'static>] = &[
     },
     Case {
         name: "a refused message is answered when it is repeated",
-        // The second message's line can't be written. A caller still receives packets.
+        // The first write of the second message's line fails. A caller still receives packets.
         session: Session {
             journal: Some(Durability::Synced),
             waiting: &[
@@ -177,7 +177,7 @@ const CASES: &[Case<'static>] = &[
     },
     Case {
         name: "many ticks are appended in one line",
-        // While appends fail, ticks pass. The next message appends them.
+        // While appends fail, ticks pass. They are appended before the next message.
         session: Session {
             journal: Some(Durability::Synced),
             waiting: &[(0, CALLER, HEARTBEAT)],
@@ -247,7 +247,8 @@ fn uncounted(alloc: Global, text: &[u8]) -> Result<Vec<u8>, AllocError> {
     Ok(lines)
 }
 
-/// Returns whether the events of a recording consist of those of the journal's text and then `rest`.
+/// Returns whether the events of a recording consist of those of the journal's text and then `rest`. If they don't
+/// begin with those of the journal's text, `rest` must be `OTHERS`.
 fn go_on(events: &[u8], text: &[u8], rest: &[u8]) -> bool {
     match events.strip_prefix(text) {
         Some(found) => compared(found, rest) == rest,

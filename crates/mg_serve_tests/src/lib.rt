@@ -1,7 +1,7 @@
 //! Tests of a running gateway, its journal and its reports through their public functions.
 //!
-//! The tests take their events from `FakePorts`. They are not in `mg_tests`, so that the two crates can be proved at
-//! the same time.
+//! Most of the tests take their events from `FakePorts`. They are not in `mg_tests`, so that the two crates can be
+//! proved at the same time.
 #![tactic(auto)]
 
 #[cfg(test)]

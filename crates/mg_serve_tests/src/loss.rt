@@ -15,7 +15,7 @@ enum Step {
     Down(u16, u16),
     /// A packet of stream 8 with this sequence number.
     Other(u16),
-    /// This many packets are lost so far.
+    /// This many packets have been lost so far.
     Lost(u64),
 }
 

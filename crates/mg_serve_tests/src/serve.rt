@@ -19,8 +19,8 @@ const THIRD: Peer = Peer {
     port: 40000,
 };
 
-/// A message that creates a termination, whose Remote is port 40000 of 127.0.0.1. Packets arrive at the termination's
-/// port from ports 40000 and 40001. Another packet arrives at a port without a termination.
+/// A message that creates a termination, whose Remote is port 40000 of 127.0.0.1. Datagrams arrive at the termination's
+/// port from ports 40000 and 40001. Another datagram arrives at a port without a termination.
 const REMOTES: &[(usize, Peer, &[u8])] = &[
     (
         0,
@@ -42,7 +42,7 @@ const REMOTES: &[(usize, Peer, &[u8])] = &[
     (2, CALLER, b"x"),
 ];
 
-/// A message that creates a termination, and packets at its port and at a port without a termination.
+/// A message that creates a termination, and datagrams at its port and at a port without a termination.
 const CALL: &[(usize, Peer, &[u8])] = &[(0, CALLER, ADD), (1, CALLER, b"x"), (2, CALLER, b"x")];
 
 /// A datagram at a port without a termination.

@@ -107,7 +107,7 @@ pub struct Outcome {
     pub synced: usize,
 }
 
-/// A gateway with two media ports.
+/// The configuration of a gateway with two media ports.
 pub fn config() -> Config {
     Config {
         slots: 2,
@@ -228,7 +228,8 @@ fn call_log(alloc: Global, ports: &FakePorts) -> Result<String, AllocError> {
     Ok(text)
 }
 
-/// Returns the first 12 bytes of the datagram that the last call sent, or nothing if the last call is not a send.
+/// Returns the first 12 bytes of the datagram that the last call sent. Returns nothing if the last call is not a send,
+/// or if the datagram is shorter.
 fn last_head(ports: &FakePorts) -> &[u8] {
     match ports.calls().unwrap_or(&[]).last() {
         Some(Call::Send(_, _, payload)) => payload.as_slice().get(..12).unwrap_or(&[]),

@@ -8,7 +8,8 @@ use std::time::Duration;
 
 const MS: u64 = 1_000_000;
 
-/// A clock that returns the given readings, and then fails. It records how long it waits. Messages end its first waits.
+/// A clock that returns the given readings, and then fails. It records how long it waits. A message ends each of its
+/// first `messages` waits.
 #[derive(Drop)]
 struct Script<'a> {
     times: &'a [u64],
@@ -70,7 +71,7 @@ fn reports_at_most_twenty_messages_before_a_tick(rt: HostRuntime) {
     for _ in 0..20 {
         assert_equal(&rt, schedule.next_step(&mut watch), Ok(Step::Message));
     }
-    // The last message is not reported, because the clock is read again and fails.
+    // The last message is not reported, because 20 were reported already. So the clock is read again, and fails.
     assert_equal(&rt, schedule.next_step(&mut watch), Err(ClockFailed));
     assert_equal(&rt, watch.messages, 0);
     let times = [20 * MS, 21 * MS];

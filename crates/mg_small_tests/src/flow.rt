@@ -135,7 +135,7 @@ const CASES: [(&str, &[Action<'static>]); 5] = [
         &[
             Action::Enter(FIRST, true, true),
             Action::Enter(SECOND, true, true),
-            // If sets overlap, no triple is applied.
+            // If the two sets of a Oneway triple overlap, no triple of the list is applied.
             Action::Apply(&[ISOLATE_SECOND, ONEWAY_FROM_ALL], Err(Overlap)),
             Action::Masks(FIRST, 0b10, 0),
             Action::Masks(SECOND, 0b01, 0),
@@ -160,7 +160,7 @@ const CASES: [(&str, &[Action<'static>]); 5] = [
     ),
 ];
 
-/// Lets a member enter. Returns whether the place was free.
+/// Lets a member enter. Returns whether the place was free and within the limits.
 fn enter(table: &mut FlowTable, place: Place, talks: bool, listens: bool) -> bool {
     if place.room >= 64 || place.seat >= 64 || table.holds(place) {
         return false;

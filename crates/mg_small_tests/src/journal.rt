@@ -71,7 +71,8 @@ pub const REFUSED: Result<(), AppendFault> = Err(AppendFault::Refused);
 const CASES: [Case<'static>; 6] = [
     Case {
         name: "lines are appended and synced",
-        // The first append takes three writes, two of which stop early. The second append is interrupted.
+        // The first append takes three writes, two of which stop early. The first write of the second append is
+        // interrupted.
         faults: &[
             InjectedFault {
                 call: FileCall::Write,
@@ -239,7 +240,7 @@ fn appends_lines_or_none(rt: HostRuntime) -> Result<(), Fail> {
     Ok(())
 }
 
-/// Returns whether an append without a journal fails.
+/// Returns whether an append fails without a journal, and succeeds with one.
 fn fails_without_a_journal(alloc: Global) -> io::Result<bool> {
     let mut none: Option<FileJournal<MemoryFile>> = None;
     let mut some = Some(journal(alloc, &[])?);

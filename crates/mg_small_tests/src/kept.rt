@@ -17,7 +17,7 @@ enum Action<'a> {
     Keep(&'a [u8], u32, &'a [u8]),
     /// Keeps a reply for each number from the first to the second, with the number as its text.
     KeepAll(u8, u8),
-    /// The sender acknowledges the replies with these numbers.
+    /// The sender acknowledges the replies with the numbers from the first to the second.
     Ack(&'a [u8], u32, u32),
     /// This reply is kept for the sender's request with this number.
     Kept(&'a [u8], u32, &'a [u8]),
@@ -81,7 +81,7 @@ const CASES: [(&str, &[Action<'static>]); 4] = [
     ),
 ];
 
-/// Keeps a reply. Returns whether no reply was kept before.
+/// Keeps a reply. Returns whether no reply to the request was kept before, and the name and the text are not too long.
 fn keep(kept: &mut Kept, sender: &[u8], number: u32, text: &[u8]) -> bool {
     if kept.find(sender, number).is_some() || sender.len() > 72 || text.len() > 16000 {
         return false;
@@ -90,7 +90,7 @@ fn keep(kept: &mut Kept, sender: &[u8], number: u32, text: &[u8]) -> bool {
     true
 }
 
-/// Keeps a reply for each number. Returns whether no reply was kept before.
+/// Keeps a reply for each number. Returns whether none of the requests had a kept reply before.
 fn keep_all(kept: &mut Kept, first: u8, last: u8) -> bool {
     for number in first..=last {
         if !keep(kept, LOWER, u32::from(number), &[number]) {

@@ -1,4 +1,4 @@
-//! Tests of writers that never wait for their reader.
+//! Tests of outlets, which wait for their reader only at the end.
 
 use crate::equality::assert_right;
 use crate::failure::kind;
@@ -77,7 +77,7 @@ enum Action<'a> {
     Written(&'a [u8]),
     /// The writer has taken this many bytes of the long text, and nothing else.
     WrittenLong(usize),
-    /// The sizes of the writer's calls.
+    /// The number of bytes that each write offered to the writer.
     Sizes(&'a [usize]),
     /// How many writes were dropped, and whether the outlet has ended.
     Dropped(u64, bool),

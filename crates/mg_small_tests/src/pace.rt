@@ -56,7 +56,7 @@ const ENDLESS: Options = Options {
     polls: 1,
 };
 
-/// Counts the `tick` lines.
+/// Counts the `tick` lines of text without a `quit` line.
 fn ticks(lines: &[u8]) -> usize {
     let mut count: usize = 0;
     for byte in lines {

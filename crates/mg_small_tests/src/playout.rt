@@ -11,7 +11,7 @@ fn frame(sample: i16) -> Frame {
     [sample; 160]
 }
 
-/// A call on a play list, with its outcome.
+/// A call on a play list with its outcome, or a check of the list after the previous calls.
 #[derive(Clone, Copy)]
 enum Action {
     /// A frame of one source is placed. Its samples equal its sequence number.
@@ -186,7 +186,7 @@ fn places(playout: &mut Playout, source: u32, sequence: u16, wanted: Placed) -> 
     playout.place(source, sequence, frame(sequence.cast_signed())) == wanted
 }
 
-/// Sets the depth. Returns whether the depth is within the limits.
+/// Sets the depth if it is within the limits. Returns whether it is.
 fn set_depth(playout: &mut Playout, depth: usize) -> bool {
     if depth < MIN_DEPTH || depth > MAX_DEPTH {
         return false;

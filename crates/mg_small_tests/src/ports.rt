@@ -117,7 +117,7 @@ const CASES: [Case<'static>; 7] = [
             synced: b"one\ntwo\nthree\n",
         }),
     },
-    // Neither failure counts as a failed receive or send.
+    // None of the failed appends counts as a failed receive or send.
     Case {
         name: "a journal refuses a line if the write fails, and is broken once a sync fails",
         failing: &[],
@@ -176,7 +176,7 @@ fn arrivals(alloc: Global) -> Result<Vec<Arrival>, AllocError> {
     Ok(arrivals)
 }
 
-/// Returns ports at which these datagrams are waiting.
+/// Returns ports at which the datagrams of each case are waiting. The receives and sends with these numbers fail.
 fn ports(alloc: Global, failing: &[u64]) -> Result<FakePorts, AllocError> {
     let failing = failing.to_vec(alloc)?;
     Ok(FakePorts::new(alloc, arrivals(alloc)?, failing))

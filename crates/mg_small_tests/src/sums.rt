@@ -40,7 +40,7 @@ fn samples() -> [i16; 161] {
     samples
 }
 
-/// Returns whether every sum still fits in 32 bits after a sample is added or subtracted.
+/// Returns whether the magnitude of every sum is at most 2^30, so that a sample can be added or subtracted.
 fn are_near(sums: &[i32]) -> bool
     ensures { IsTrue result → EachIndex sums.now (λ i. unsigned_abs (sample sums.now i) ≤ 2 ^ 30) }
 {

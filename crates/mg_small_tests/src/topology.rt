@@ -65,7 +65,7 @@ const CASES: [(&str, &[Action<'static>]); 4] = [
             Action::Apply(&[ONEWAY, ISOLATE], Ok(())),
             Action::Hears(1, 0, false),
             Action::Hears(0, 1, false),
-            // A seat in both sets is allowed.
+            // A seat may be in both sets of a Bothway triple.
             Action::Apply(&[ALL_TO_ALL], Ok(())),
             Action::Hears(1, 0, true),
             Action::Hears(0, 1, true),
@@ -117,7 +117,7 @@ const CASES: [(&str, &[Action<'static>]); 4] = [
     ),
 ];
 
-/// Takes a seat. Returns whether the seat was free.
+/// Takes a seat. Returns whether the seat exists and was free.
 fn enter(topology: &mut Topology, seat: usize) -> bool {
     if seat >= SEATS || topology.holds(seat) {
         return false;

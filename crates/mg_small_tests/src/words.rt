@@ -1,11 +1,11 @@
-//! Tests of numbers, addresses, names of terminations, modes and counters.
+//! Tests of numbers, addresses, prefixes, names, errors, modes and counters.
 
 use mg_words::{
     ContextId, ErrorNumber, Mode, Stats, Term, address_of, address_text, after_prefix,
     context_id_of, cut, mode_listens, mode_talks, number_of, port_of, version_in_digits,
 };
 
-/// Strings that are not numbers.
+/// Strings that are not numbers of 1 to 10 digits that fit in 32 bits.
 const NO_NUMBERS: [&[u8]; 5] = [b"", b"4294967296", b"00000000007", b"+7", b"7 "];
 
 fn reads_numbers() -> bool {

@@ -74,7 +74,7 @@ quiet_both (NotSent socket to bytes cause ∷ p) q h k = absurd h
 pub quiet_then : (a b c : Option (List HostCall)) → RunsNoSession a b → RunsNoSession b c → RunsNoSession a c
 quiet_then a b c (p, grows, quiet) (q, more, too) = (p ++ q, grows_both a b c p q grows more, quiet_both p q quiet too)
 
--- Appending some lines and then more lines logs all of them in order.
+-- If some lines were appended, and `Logs` holds for more lines, it holds for all of them together.
 pub logs_both : {A E : Type 0} (a b c : Option (List HostCall)) (lines more : List ℕ) (result : Result A E)
     → HasWritten a b lines → Logs b c more result → Logs a c (lines ++ more) result
 logs_both a b c lines more (Ok done) (p, grows, writes) (q, then, also) =
@@ -82,7 +82,7 @@ logs_both a b c lines more (Ok done) (p, grows, writes) (q, then, also) =
 logs_both a b c lines more (Err fault) (p, grows, writes) rest =
     quiet_then a b c (p, grows, writes_quiet p lines writes) rest
 
--- One append logs its lines.
+-- If the log shows one append, `Logs` holds for its lines and its result.
 pub logs_one : (a b : Option (List HostCall)) (lines : List ℕ) (durability : Durability) (result : Result (Unit {0}) AppendFault)
     → Grows a b (OnPorts (Append lines durability result) ∷ []) → Logs a b lines result
 logs_one a b lines durability (Ok done) grows =

@@ -11,7 +11,7 @@ use Rattle.mg_core.specs.World.{start_of}
 use Rattle.mg_core.specs.aids.Stands.{StandsFor}
 use Rattle.mg_engine.specs.declared.config.Config.{Config}
 
--- A new gateway is resumed from a journal without lines, so without events.
+-- A new gateway is resumed from a journal without lines, and so without events.
 pub new_resumed : (config : Config) (found : Option (List ℕ)) (state : CoreState)
     → IfSome found (λ text. text ≡ []) → StandsFor state (start_of config)
     → (rest : Option (List ℕ)) × IsResumed config found rest state

@@ -55,7 +55,8 @@ drawn_chosen None given draws config chosen empty drawn = inl drawn
 drawn_chosen (Some []) given draws config chosen empty drawn = drawn
 drawn_chosen (Some (byte ∷ text)) given draws config chosen empty drawn = absurd cc
 
--- For a journal with lines, the configuration in its title is a valid choice if it agrees with the given options.
+-- For a journal with lines and without an invalid seal, the configuration in its title is a valid choice if it agrees
+-- with the given options.
 pub agreed_chosen : (text : Option (List ℕ)) (given : Given) (draws : Draws) (config chosen : Config)
     → IfSome text (λ t. t ≢ []) → Agrees given config chosen → IfSome text (λ t. StartsWith t (title_line chosen))
     → IsChosen text given draws config chosen
@@ -126,7 +127,8 @@ resumes_anew config state reached stands none = record {
   resumes = ([], [], (refl, refl), both_known (Some []) [] reached no_events (reached_anew (Some []) reached refl none));
 }
 
--- After the title, the missed ticks and the fence were appended, the journal's text is `started_text`.
+-- After the title (if the journal is new) and the lines for the start were appended, the journal's text is
+-- `started_text`.
 writes : (timeline : Option Timeline) (config : Config) (missed : ℕ) (fence : Option ℕ) (text : Option (List ℕ))
     (journal : JournalState)
     → KeepsTimes timeline text → HasBegun (title_before timeline config) missed fence text journal

@@ -5,7 +5,8 @@ use Rattle.std.specs.Io.{StartsWith}
 use Rattle.mg_journal.specs.Text.{whole_lines}
 use Rattle.mg_start.specs.aids.Starting.{may_be_title}
 
--- If a file has no complete line, the bytes that were peeked at are the whole file.
+-- If all bytes after the last complete line were peeked at, and they may be a title, a file without a complete line may
+-- be a title.
 pub partial_title : (known : Option (List ℕ)) (n : ℕ) (part : List ℕ) → length part ≡ n →
     IfSome known (λ bytes. StartsWith (drop (length (whole_lines bytes)) bytes) part) →
     IfSome known (λ bytes. length (whole_lines bytes) + n ≡ length bytes) → may_be_title part ≡ true →

@@ -26,8 +26,9 @@ missed_lines ticks =
 abbrev pub fence_comment : Option ℕ → List ℕ
 fence_comment fence = option_map_or (λ n. codes "# fence " ++ (decimal n ++ codes "\n")) fence []
 
--- The lines that are appended before a gateway starts. The first line, `# counted ticks`, marks the place behind which
--- ticks are counted. The lines for missed ticks follow, and then the comment with which an operator sets the fence.
+-- The lines that are appended before a gateway starts. The first line, `# counted ticks`, marks the place after which
+-- ticks are counted. The lines for missed ticks follow if ticks were missed, and then the comment that sets the fence
+-- if an operator sets it.
 abbrev pub start_lines : (missed : ℕ) → (fence : Option ℕ) → List ℕ
 start_lines missed fence =
     codes "# counted ticks\n" ++ (missed_lines missed ++ fence_comment fence)
@@ -60,7 +61,7 @@ IsQuiet (call ∷ calls) = ⊥
 abbrev pub RunsNoSession : (old new : Option (List HostCall)) → Type 0
 RunsNoSession old new = (calls : List HostCall) × Grows old new calls × IsQuiet calls
 
--- If the lines that are appended before a gateway starts follow a script, they are read as the missed ticks. Behind
+-- If the lines that are appended before a gateway starts follow a script, they are read as the missed ticks. After
 -- these lines, ticks are counted.
 abbrev pub StartsAreRead : Type 0
 StartsAreRead =

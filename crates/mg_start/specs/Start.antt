@@ -27,8 +27,8 @@ use Rattle.mg_arguments.specs.Given.{Agrees}
 use Rattle.mg_arguments.specs.Title.{title_line}
 use Rattle.mg_start.specs.Journal.{Writes, missed_after, start_lines}
 
--- The exit status of a run that didn't start agrees with the configuration: ports are bound only if the configuration
--- is valid.
+-- The exit status of a run that didn't start. It is `Usage` only if the configuration isn't valid, and `NoPort` only if
+-- the configuration is valid.
 abbrev pub FailsToStart : Config → Status → Type 0
 FailsToStart config Usage = IsValidConfig config → ⊥
 FailsToStart config NoPort = IsValidConfig config
@@ -52,7 +52,9 @@ Finds (Some path) old new text =
     × IsLogged new text (whole_lines bytes)
 
 -- A gateway's configuration, given the configuration that the options specify. If the journal is empty, numbers may be
--- drawn. Otherwise, the journal's title states the configuration, which agrees with the given options.
+-- drawn. If it isn't, the journal's title states the configuration, which agrees with the given options, and no seal in
+-- the journal is invalid. If the journal's text isn't known, numbers may be drawn, or the configuration agrees with the
+-- given options.
 abbrev pub IsChosen : (text : Option (List ℕ)) → Given → Draws → (config chosen : Config) → Type 0
 IsChosen None given draws config chosen = IsDrawn draws config chosen ⊎ Agrees given config chosen
 IsChosen (Some []) given draws config chosen = IsDrawn draws config chosen
@@ -60,21 +62,22 @@ IsChosen (Some (byte ∷ text)) given draws config chosen =
     Agrees given config chosen × StartsWith (byte ∷ text) (title_line chosen)
 
 -- The world in which a gateway is resumed, and the number that its messages have reached. If the journal's text is
--- known, exactly its events have happened in this world.
+-- known, exactly its events have happened in this world, and its notes reach this number.
 abbrev pub ResumesIn : (text : Option (List ℕ)) → Config → World → (reached : ℕ) → Type 0
 ResumesIn text config w reached =
     (events : List Event) × (sent : List Sent) × Run (start_of config) events sent w
     × IfSome text (λ lines. (events_of (journal_lines true lines) ≡ Some events)
     × ((notes : List Note) × (notes_of (journal_lines true lines) ≡ Some notes) × Reaches 0 notes reached))
 
--- The text of the journal when a gateway starts: a new journal begins with the title of the gateway's configuration.
--- The missed ticks follow, and then the number to which an operator sets the fence.
+-- The text of the journal when a gateway starts: the text that was found or, for a new journal, the title of the
+-- gateway's configuration, and then the lines that are appended before a gateway starts.
 abbrev pub started_text : Config → (missed : ℕ) → (fence : Option ℕ) → (found : List ℕ) → List ℕ
 started_text config missed fence [] = title_line config ++ start_lines missed fence
 started_text config missed fence (byte ∷ found) = (byte ∷ found) ++ start_lines missed fence
 
--- The calls on the host before a gateway starts: if there is a journal, the date is read, and lines are appended to the
--- journal. If the journal's text is known, the text and the date determine these lines.
+-- The calls on the host before a gateway starts. If there is a journal, the date is read, and lines are appended to the
+-- journal. If the journal's text is known, these lines depend only on the text, the date, the configuration and the
+-- fence. Without a journal, there are no calls, and no ticks were missed.
 abbrev pub Begins : (journal text : Option (List ℕ)) → Config → (missed : ℕ) → (fence : Option ℕ)
     → (old new : Option (List HostCall)) → Type 0
 Begins None text config missed fence old new = (new ≡ old) × (missed ≡ 0)
@@ -84,8 +87,8 @@ Begins (Some path) text config missed fence old new =
     × IfSome text (λ found. (missed ≡ missed_after found millis)
     × (started_text config missed fence found ≡ found ++ lines))
 
--- A gateway has started in the world `start`: it was resumed from its journal and has run the missed ticks. `reached`
--- is the number that its journal has reached. If there is a journal, it works.
+-- A gateway has started in the world `start`: it was resumed from its journal, if it has one, and has run the missed
+-- ticks. `reached` is the number that its journal had reached before the start. If there is a journal, it works.
 pub record HasStarted (journal text : Option (List ℕ)) (fence : Option ℕ) (config : Config)
     (start : World) (reached : ℕ) (before : JournalState) (bound begun : Option (List HostCall))
     : Type 0 where

@@ -54,7 +54,8 @@ pub(crate) struct Found<F: JournalFile> {
     pub history: Option<History>,
 }
 
-/// Returns the title in the first line of a journal's text, or `None` if the line isn't a comment.
+/// `front` is the beginning of a journal's text. Returns the title in its first line, or `None` if the line isn't
+/// complete or isn't a comment.
 fn title_in(front: &[u8]) -> Option<&[u8]>
     ensures line { IfSome result (λ title. (rest : List ℕ)
         × (front.now ≡ (codes "# " ++ (title.now ++ codes "\n")) ++ rest)) }
@@ -88,7 +89,7 @@ fn check_partial<F: JournalFile>(opening: &mut Opening<F>) -> Result<(), Journal
     Ok(())
 }
 
-/// Returns the configuration in the title of a journal, or `None` if the journal is empty.
+/// Returns the configuration in the title of a journal, or `None` if the journal has no complete line.
 fn config_in<F: JournalFile>(
     alloc: Global,
     opening: &mut Opening<F>,
@@ -171,7 +172,8 @@ where
     }
 }
 
-/// Finds the state of a gateway after a journal's events, if the journal isn't empty. Sends nothing.
+/// Finds the state of a gateway after a journal's events, if the journal isn't empty. Checks the journal's seals before
+/// that. Sends nothing.
 pub(crate) fn find<F: JournalFile>(
     alloc: Global,
     given: &Given,

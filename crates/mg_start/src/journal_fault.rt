@@ -29,7 +29,8 @@ pub enum JournalFault {
 }
 
 impl JournalFault {
-    /// Reports the fault. Returns the program's exit status.
+    /// Reports the fault. Returns the program's exit status, which says whether another start can succeed although
+    /// nobody has changed the file.
     pub fn report<E: Write>(&self, path: &FilePath, errors: &mut E) -> Status
         ensures ends { (result ≡ Status.NoMemory) ⊎ (result ≡ Status.BadJournal) }
     {

@@ -4,11 +4,10 @@
 //! skips the ticks that the gateway missed, and starts appending:
 //!
 //! ```rust
-//! let prepared = prepare(&mut host, &rt, alloc, config, &service, draws, &mut errors)?;
-//! let mut core = prepared.core;
-//! let journal = begin_journal(
-//!     &mut host, alloc, &prepared.config, &service, &rt, prepared.journal, &mut core, prepared.reached, &mut errors,
-//! )?;
+//! let prepared = prepare(&system, &mut host, requested, &mut errors)?;
+//! let Prepared { config, core, journal, reached } = prepared;
+//! let mut gateway = Gateway { alloc, config, core, reached, service: requested.service };
+//! let journal = begin_journal(&system, &mut host, &mut gateway, journal, &mut errors)?;
 //! ```
 //!
 //! [`FoundJournal`] is a journal before anything is appended to it. If a gateway can't start, the fault is reported,

@@ -3,7 +3,7 @@
 
 ghost use Rattle.mg_start.specs.Journal.{StartsAreRead};
 
-/// A gateway that starts from its journal finds there what happened before, and the ticks that it skips.
+/// In a journal to which these lines were appended, a reader finds what happened before, and then the missed ticks.
 pub fn starts_are_read()
     ensures theorem { StartsAreRead }
 {

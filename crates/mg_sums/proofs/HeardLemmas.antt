@@ -65,7 +65,8 @@ whole_is f rooms room out h =
     (λ row. parts (is_joined rooms room row) (is_among out row) (f row) (among_joined rooms room out row h.joined)) in
     omega (arith, ints, left, all, heard, both)
 
--- These lemmas show that the number of heard rows is at most the number of rows.
+-- These lemmas bound the lengths of lists of rows. A list of different rows of a room is no longer than the list of all
+-- rows. The list `minus` is no longer than the list of rows that are left out.
 cond_one : (b : Bool) → unsigned_abs (cond b (pos 1) (pos 0)) ≤ 1
 cond_one true = omega arith
 cond_one false = omega arith

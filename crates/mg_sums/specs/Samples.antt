@@ -3,7 +3,7 @@ use Rattle.std.specs.Prelude.{ℕ, ℤ, pos, negsuc, ◌+ℤ◌, List, [], ◌�
 use Rattle.std.specs.Prelude.{None, replicate}
 use Rattle.std.specs.Int.{int_min, int_max}
 
--- The number at an index of a row.
+-- The number at an index of a row, or 0 past the end of the row.
 abbrev pub sample : List ℤ → ℕ → ℤ
 sample row i = slice_index_or row i (pos 0)
 

@@ -172,7 +172,7 @@ impl SumRow {
         kernels::change_row(&mut self.sums, &old.samples, &new.samples);
     }
 
-    /// Writes the difference of two rows.
+    /// Writes a total minus a row.
     pub fn write_difference(&mut self, total: &SumRow, row: &FrameRow, work: &mut u32)
         requires near { AreNear (2 ^ 30) total.now }
         ensures sums { (i : ℕ) → i < 160 →

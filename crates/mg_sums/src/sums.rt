@@ -50,7 +50,7 @@ impl Sums {
 
     /// Creates silent rows that aren't joined to any room.
     ///
-    /// Fails only if the allocation fails. No other call allocates.
+    /// Fails only if an allocation fails. No other call allocates.
     pub fn new(alloc: Global) -> Result<Self, AllocError>
         ensures first { IfOk result (λ sums. sums ≡ first_sums) }
         ensures nowhere { IfOk result (λ sums. (row : ℕ) → room_of sums row ≡ None) }

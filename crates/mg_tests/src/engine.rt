@@ -259,7 +259,7 @@ fn drops_malformed_packets(rt: HostRuntime) -> Result<(), Fail> {
     play(&rt, rt.alloc(), Scene::DropMalformedPackets, &SPEAKERS[..1])
 }
 
-/// A datagram from another address, or at a port without a termination, is dropped.
+/// A datagram from another address, at a port without a termination, or for a termination without a Local is dropped.
 fn drop_datagrams_without_termination(rt: &impl Abort, engine: &mut Engine) -> Result<(), Fail> {
     let bytes = packet(0x80);
     let stranger = Peer {
@@ -408,7 +408,7 @@ fn lends_the_frames_and_totals(rt: HostRuntime) -> Result<(), Fail> {
     play(&rt, rt.alloc(), Scene::LendFramesAndTotals, &SPEAKERS)
 }
 
-/// Ticks, packets and edits cost no more rows than their bounds allow.
+/// Ticks, RTP datagrams and edits cost no more rows than their bounds allow.
 fn tick_at_a_price(rt: &impl Abort, engine: &mut Engine, outbox: &mut Outbox) -> Result<(), Fail> {
     speak(engine, outbox);
     assert!(rt; tick_rows(engine, outbox) <= 12);
@@ -435,7 +435,7 @@ fn speak_at_each_port(engine: &mut Engine) {
     }
 }
 
-/// A tick of a full context costs three rows for each member that talks.
+/// A tick of a full context costs at most three rows for each member that talks.
 ///
 /// The total is the sum over all members, and each member hears the loudest possible sample.
 fn tick_with_many(
@@ -515,7 +515,7 @@ fn count_alike(one: &Engine, other: &Engine) -> bool {
     true
 }
 
-/// Returns whether two engines send the same packets in each of the next ticks, and then have the same counters.
+/// Returns whether two engines send the same packets in each of the next four ticks, and then have the same counters.
 fn go_on_alike(
     one: &mut Engine,
     other: &mut Engine,

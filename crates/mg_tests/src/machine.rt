@@ -105,8 +105,8 @@ fn sent_header(core: &mut Core) -> Option<[u8; 12]> {
     }
 }
 
-/// Sequence numbers, timestamps and SSRCs wrap to 0. A skip counts its ticks and sends no packets, and the last answer
-/// is unchanged.
+/// Sequence numbers, timestamps and SSRCs wrap. A skip counts its ticks and sends no packets, and the last answer is
+/// still there.
 fn send_and_skip(rt: &impl Abort, core: &mut Core) {
     let first = [128, 128, 255, 255, 255, 255, 255, 160, 0, 0, 0, 0];
     assert_equal(rt, sent_header(core), Some(first));

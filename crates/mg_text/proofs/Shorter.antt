@@ -1,5 +1,5 @@
--- Parsing a part of a message leaves fewer tokens, by any measure that grows with each token. The number of tokens
--- bounds the length of a list, and the bytes of the tokens bound the length of a topology.
+-- Parsing a part of a message leaves fewer tokens, or at least not more, by any measure that grows with each token. The
+-- number of tokens bounds the length of a list, and the bytes of the tokens bound the length of a topology.
 use Rattle.std.proofs.Common.{◌≡◌, ℕ, ◌+◌, ◌<◌, ◌≤◌, Bool, true, false, List, [], ◌∷◌, length, Option, Some, None, inl, inr, ap, arith}
 use Rattle.mg_scan.specs.declared.kind.TokenKind.{TokenKind}
 use Rattle.mg_scan.specs.declared.kind.TokenKind.TheVariants.{Word, Open, Close, Comma, Equals, Quoted, Octets}
@@ -123,7 +123,7 @@ module _ (size : Measure) where
         omega (arith, mark_shorter Open ts m.0 m.1, mark_shorter Close m.0 rest m.2)
     any_braced_shorter (x ∷ xs) ts rest m = braced_shorter (x ∷ xs) ts rest m
 
-  -- Parsing a list of words leaves fewer tokens.
+  -- Parsing a word of a list does not leave more tokens.
   pub each_word_shorter : {X : Type 0} (meaning : List ℕ → Option X) (source : List ℕ) (ts : List Token) (x : X)
       (rest : List Token) → IsWorded meaning source x ts rest → size.of rest ≤ size.of ts
   each_word_shorter meaning source ts x rest m = omega (arith, worded_shorter meaning source x ts rest m)

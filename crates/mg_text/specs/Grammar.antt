@@ -176,7 +176,7 @@ IsAudit source xs =
     IsName source keywords.Audit ▹ IsAnyBraced (IsWorded (by_keyword audit_word_named) source) xs
 
 -- The rest of an `other` descriptor: [group | "=" group | "=" Word [group]]. The flag says whether the descriptor has
--- content. A bare keyword or empty braces do not count as content.
+-- content. A bare keyword, or one directly followed by empty braces, has none.
 abbrev pub IsOtherContent : Bool → Production
 IsOtherContent false = IsContent false
 IsOtherContent true =

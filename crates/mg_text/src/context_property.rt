@@ -2,7 +2,7 @@ use crate::tree_list::TreeList;
 use mg_scan::Span;
 use mg_words::Association;
 
-/// A topology triple: the spans of two names, and which of the two hears the other.
+/// A topology triple: the spans of two names, and who hears whom.
 #[derive(Clone, Copy, Debug, PartialEq, Eq)]
 pub struct NamedTriple {
     pub first: Span,

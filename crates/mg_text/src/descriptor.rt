@@ -32,7 +32,7 @@ pub enum OtherWord {
 pub enum Descriptor {
     Media(TreeList<MediaPart>),
     Audit(TreeList<AuditWord>),
-    /// A descriptor of another kind, and whether it has content. A bare keyword or empty braces do not count as
-    /// content.
+    /// A descriptor of another kind, and whether it has content. A bare keyword, or one directly followed by empty
+    /// braces, has none.
     Other(OtherWord, bool),
 }

@@ -1,6 +1,6 @@
 use std::alloc::{AllocError, AllocFailed};
 
-/// Why a datagram is not a valid message.
+/// Why reading a datagram as a message failed.
 #[derive(Clone, Copy, Debug, PartialEq, Eq)]
 pub enum ReadFault {
     /// The bytes do not follow the grammar. The fault was found at this offset, in bytes.

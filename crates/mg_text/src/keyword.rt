@@ -270,7 +270,8 @@ fn word_among(words: &[Keyword], text: &[u8]) -> Option<Keyword>
 
 /// Returns the keyword that the text spells, in either form, or `None` if it doesn't spell a keyword.
 ///
-/// Only forms with the text's first letter and length are compared.
+/// Only keywords that have a form with the text's first letter are tried, and only forms of the text's length are
+/// compared.
 pub fn keyword_of(text: &[u8]) -> Option<Keyword>
     ensures value { result ≡ keyword_of text.now }
 {

@@ -1,7 +1,7 @@
 //! The parser for control messages in text encoding (Megaco, RFC 3525, Annex B).
 //!
-//! [`read`] parses the bytes of a datagram as a [`Message`], or returns why they are not a message. The tree refers to
-//! text by its span in the source, and doesn't copy it. The crate `mg_reply` writes replies:
+//! [`read`] parses the bytes of a datagram as a [`Message`], or returns why it could not. The tree refers to text by
+//! its span in the source, and doesn't copy it. The crate `mg_reply` writes replies:
 //!
 //! ```rust
 //! let source = b"MEGACO/1 [127.0.0.1]:2945 Transaction=1{Context=-{AuditValue=ROOT}}".as_slice();

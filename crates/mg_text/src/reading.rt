@@ -54,7 +54,7 @@ fn within(fault: ReadFault, len: usize) -> ReadFault
     }
 }
 
-/// Parses a message after its head, if its version is 1 and its tokens have no fault.
+/// Parses the head of a message and, if its version is 1 and the tokens have no fault, the rest.
 fn versioned(
     alloc: Global,
     source: &[u8],
@@ -140,7 +140,8 @@ fn answered(message: Result<Message, ReadFault>, len: usize) -> Result<Message, 
     }
 }
 
-/// Parses a datagram as a message. Allocates memory for the tokens and the tree.
+/// Parses a datagram as a message. Allocates memory for the tokens and the tree, and returns `NoMemory` if an
+/// allocation fails.
 ///
 /// Returns `TooMany` for a datagram of more than 8192 bytes. Otherwise returns `Version` if the head has a version
 /// other than 1, whatever follows the head. Returns `Syntax` for anything else that does not follow the grammar.

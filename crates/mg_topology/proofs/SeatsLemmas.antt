@@ -32,7 +32,7 @@ pub filter_none : (p : ℕ → Bool) (a n : ℕ) → ((k : ℕ) → p k ≡ fals
 filter_none p a zero h = refl
 filter_none p a (suc n) h = filtered p a n false (h a) ∙ filter_none p (a + 1) n h
 
--- Filtering with p yields its first number s, followed by the numbers that q keeps.
+-- If s is the first number that p keeps, filtering with p yields s, followed by the numbers that q keeps.
 pub filter_first : (p q : ℕ → Bool) (s a n : ℕ) → IsWithout p s q → a ≤ s → s < a + n → p s ≡ true →
     ((k : ℕ) → k < s → p k ≡ false)
     → filter p (range_with_len a n) ≡ s ∷ filter q (range_with_len a n)
@@ -57,7 +57,7 @@ longer : (b : Bool) (x : ℕ) (xs ys : List ℕ) → length xs ≡ length ys + 1
 longer true x xs ys e = omega (arith, e)
 longer false x xs ys e = e
 
--- Filtering with q keeps one number less than filtering with p.
+-- If p keeps s, filtering with q keeps one number fewer than filtering with p.
 pub filter_fewer : (p q : ℕ → Bool) (s a n : ℕ) → IsWithout p s q → a ≤ s → s < a + n → p s ≡ true
     → length (filter p (range_with_len a n)) ≡ length (filter q (range_with_len a n)) + 1
 filter_fewer p q s a zero w l r here = absurd (omega (arith, l, r))

@@ -25,8 +25,8 @@ row_of_pair : (x y d b b' : Bool) → x ≡ true → y ≡ true → d ≡ false 
     (x && (y && (not d && b))) ≡ (x && (y && (not d && b'))) → b ≡ b'
 row_of_pair x y d b b' p q r e = grind arith
 
--- A topology represents a list of edits if it holds the same seats and its rows agree with the last words on held
--- seats.
+-- A topology represents a list of edits if it holds the same seats and its rows agree with the last words on pairs of
+-- different held seats.
 pub stands_from : (k : TopologyState) (es : List TopologyEdit) → ((s : ℕ) → holds k s ≡ is_held es s)
     → ((t l : ℕ) → is_held es t ≡ true → is_held es l ≡ true → (t == l) ≡ false →
     has_seat (slice_index k.rows l) t ≡ may_hear es t l)
@@ -127,7 +127,7 @@ apply_all-more triples i triple es p e =
 
 -- ---- what a topology tells
 
--- A held listener hears the talkers in its row, except itself and seats that are not held.
+-- A listener whose seat is held hears the talkers in its row, except itself and seats that are not held.
 pub row_tells : (k : TopologyState) (t l : ℕ) (b : Bool) → k.held < 2 ^ SEATS → holds k l ≡ true
     → b ≡ cond (t == l) false (has_seat (slice_index k.rows l) t && has_seat k.held t) → b ≡ hears k t l
 row_tells k t l b p q e = grind (arith, nat_tests, has_seat-inside k.held t p)

@@ -50,7 +50,8 @@ pub fn without_seat(mask: Mask, seat: usize) -> Mask
     requires { seat < SEATS }
     ensures seats { (s : ℕ) → has_seat result s ≡ (if s == seat then false else has_seat mask s) }
 
-    // A loop that removes seats ends: each removal makes the mask a smaller number, with one seat less.
+    // Removing a seat of the set makes the mask a smaller number, with one seat fewer. So a loop that removes seats
+    // ends.
     ensures smaller { IsTrue (has_seat mask seat) → result < mask }
     ensures fewer { IsTrue (has_seat mask seat) → seat_count mask ≡ seat_count result + 1 }
     ensures rest { IsLowest mask seat → seats_of mask ≡ seat ∷ seats_of result }

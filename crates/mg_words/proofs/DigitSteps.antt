@@ -9,8 +9,8 @@ use Rattle.std.specs.Int.Digits.{number_from_digits_after}
 use Rattle.std.specs.Prelude.{if◌then◌else◌, nat_le}
 use Rattle.mg_words.specs.Numbers.{decimal_of}
 
--- The value of a number that starts with digits of value n and continues with the digits in the list. It is `None` if
--- the value exceeds the limit or a byte is not a digit.
+-- The value of a number that starts with digits of value n and continues with the digits in the list. It is `None` if a
+-- byte is not a digit, or if a digit takes the value above the limit.
 unfoldable pub value_after : ℕ → ℕ → List ℕ → Option ℕ
 value_after limit n [] = Some n
 value_after limit n (d ∷ ds) = if is_ascii_digit d && nat_le (10 * n + (d - 48)) limit then

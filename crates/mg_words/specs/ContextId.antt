@@ -14,7 +14,7 @@ context_of_number n =
     else (if n == 4294967295 then All
     else Number n))
 
--- The context that a word names.
+-- The context that a word names, if it names one.
 unfoldable pub context_id_of : List ℕ → Option ContextId
 context_id_of text =
     if bytes_eq text (codes "-") then Some Null

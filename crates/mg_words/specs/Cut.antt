@@ -8,7 +8,7 @@ use Rattle.std.specs.Str.{str_eq_ignore_ascii_case}
 abbrev pub cut_at : List ℕ → ℕ → Option (List ℕ × List ℕ)
 cut_at text n = if nat_lt n (length text) then Some (take n text, drop (n + 1) text) else None
 
--- The text before and after the first occurrence of a byte.
+-- The text before and after the first occurrence of a byte, if the byte occurs.
 abbrev pub cut : ℕ → List ℕ → Option (List ℕ × List ℕ)
 cut byte text = cut_at text (position_or_len (λ b. b == byte) text)
 

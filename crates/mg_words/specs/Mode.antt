@@ -1,5 +1,5 @@
--- Modes of a stream (RFC 3525, section 7.1.7), seen from outside the context. A termination that receives from its peer
--- is heard in the context; a termination that sends to its peer hears the context.
+-- Modes of a stream (RFC 3525, section 7.1.7), seen from outside the context. Except in `Loopback`, a termination that
+-- receives from its peer is heard in the context, and one that sends to its peer hears the context.
 use Rattle.std.specs.Prelude.{ℕ, List, Bool, true, false, codes}
 use Rattle.mg_words.specs.declared.mode.Mode.{Mode}
 use Rattle.mg_words.specs.declared.mode.Mode.TheVariants.{Inactive, SendOnly, ReceiveOnly}

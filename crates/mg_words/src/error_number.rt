@@ -4,7 +4,7 @@ ghost use Rattle.mg_words.specs.ErrorNumber.{error_row, error_text};
 use arrayvec::ArrayVec;
 use itoa::Buffer;
 
-/// The length of the longest error descriptor, in bytes.
+/// An upper bound on the length of an error descriptor, in bytes.
 pub const ERROR_LIMIT: usize = 64;
 
 /// Why a message, an action or a command was rejected. The numbers are from the standard's list of error codes (RFC
@@ -15,7 +15,7 @@ pub enum ErrorNumber {
     Syntax,
     /// The message is for another version of the protocol.
     Version,
-    /// The command does not allow this name.
+    /// The command or the triple does not allow this name.
     IdentifierNotAllowed,
     /// The action's context does not exist, or cannot be entered.
     UnknownContext,
@@ -25,7 +25,7 @@ pub enum ErrorNumber {
     IllegalCombination,
     /// No termination has this name.
     UnknownTermination,
-    /// A command names all terminations of a context that has no terminations.
+    /// A command names all terminations of a context that has none or does not exist.
     WildcardMatchedNone,
     /// No slot is free, or termination numbers are exhausted.
     NoTerminationLeft,
@@ -33,17 +33,17 @@ pub enum ErrorNumber {
     AlreadyInContext,
     /// The context has as many members as the limit allows.
     ContextFull,
-    /// The termination is in another context.
+    /// The termination is in another context, or a triple names a termination that is not a member.
     NotInContext,
     /// A descriptor has content that this gateway does not support.
     DescriptorNotServed,
     /// A property, or its value, is not supported.
     PropertyNotServed,
-    /// A keyword that may occur only once occurs twice.
+    /// A keyword that may occur only once occurs again.
     DescriptorTwice,
     /// The message exceeds a limit, or asks for a command, context, stream or reservation that is not supported.
     NotServed,
-    /// No session description in Local or Remote is acceptable.
+    /// None of the session descriptions in a Local or Remote is acceptable.
     NoMedia,
     /// The reply would exceed the size limit. The request's commands stay in effect.
     ReplyTooLong,

@@ -3,8 +3,8 @@ ghost use Rattle.mg_words.specs.Mode.{mode_text, talks, listens};
 
 /// The direction of a termination's media stream, seen from outside the context (RFC 3525, section 7.1.7).
 ///
-/// A termination sends its peer what it hears in the context, and feeds what it receives from its peer into the
-/// context.
+/// Except in `Loopback`, a termination that sends to its peer sends what it hears in the context. One that receives
+/// from its peer feeds what it receives into the context.
 #[derive(Clone, Copy, Debug, Default, PartialEq, Eq)]
 pub enum Mode {
     /// Neither sends nor receives.

@@ -5,11 +5,11 @@ use std::time::{Clock, Duration};
 /// After a message has ended a wait, the next wait looks for messages only after this many milliseconds.
 const GAP_MS: u64 = 1;
 
-/// The system's monotonic clock. A datagram at the control socket ends a wait; otherwise a wait ends up to a millisecond
+/// The system's monotonic clock. A datagram at a control socket ends a wait; otherwise a wait ends up to a millisecond
 /// late.
 ///
-/// The next wait doesn't look for messages during its first millisecond, so a flood of messages can end at most a
-/// thousand waits per second.
+/// After a datagram has ended a wait, the next wait doesn't look for messages during its first millisecond. So a flood
+/// of messages can end at most a thousand waits per second.
 #[derive(Drop)]
 pub struct ControlWatch<'a, C: Clock> {
     watch: SystemWatch<'a, C>,
@@ -19,7 +19,7 @@ pub struct ControlWatch<'a, C: Clock> {
 }
 
 impl<'a, C: Clock> ControlWatch<'a, C> {
-    /// Creates a clock. The control socket is registered with this poll.
+    /// Creates a clock. The control sockets must be registered with this poll.
     pub fn new(watch: SystemWatch<'a, C>, poll: Poll, events: Events) -> Self {
         ControlWatch {
             watch,
@@ -29,7 +29,7 @@ impl<'a, C: Clock> ControlWatch<'a, C> {
         }
     }
 
-    /// Waits for a datagram at the control socket, and returns whether one arrived. The system waits in whole
+    /// Waits for a datagram at a control socket, and returns whether one arrived. The system waits in whole
     /// milliseconds, rounded up. If it can't wait for a datagram, the clock just waits.
     fn message_within(&mut self, time: Duration) -> bool {
         match self.poll.poll(&mut self.events, Some(time)) {

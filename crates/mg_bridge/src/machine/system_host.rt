@@ -130,7 +130,8 @@ impl<'a, C: Clock> SystemHost<'a, C> {
         Ok(socket)
     }
 
-    /// Receives a datagram from the socket with this number if one is waiting. Only the first control socket is tried.
+    /// Receives a datagram from the socket with this number if one is waiting. For 0, only the first control socket is
+    /// tried.
     fn receive_at(
         &self,
         number: usize,

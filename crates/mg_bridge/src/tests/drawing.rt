@@ -32,7 +32,7 @@ impl RandomSource for Counting {
     }
 }
 
-/// A clock that can be read once.
+/// A clock whose monotonic time can be read once, and whose date can't be read.
 #[derive(Drop)]
 struct FailingClock {
     works: Cell<bool>,
@@ -109,7 +109,7 @@ fn draws_the_numbers_that_no_option_gives(rt: HostRuntime) -> Result<(), Fail> {
     Ok(())
 }
 
-/// No gateway gets past its ports, because 192.0.2.1 isn't an address of this machine.
+/// No gateway can bind its ports, because 192.0.2.1 isn't an address of this machine.
 #[test]
 fn reports_a_lack_of_random_numbers(rt: HostRuntime) {
     let none = Counting { works: false };

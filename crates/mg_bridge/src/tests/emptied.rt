@@ -15,8 +15,8 @@ fn kind<T: Drop>(outcome: io::Result<T>) -> Option<ErrorKind> {
     }
 }
 
-/// Another program empties the file after the file is opened and before it is read. Returns whether neither a read nor
-/// the acceptance extends the file.
+/// Another program empties the file after the file is opened and before it is read. Returns whether a read and then the
+/// acceptance fail, and the file stays empty.
 fn is_never_extended(rt: &HostRuntime, path: &str) -> io::Result<bool> {
     fs::write(rt, path, "one\ntw")?;
     let mut opening = Opening::new(SystemHost::new(rt, rt).open_journal(path)?)?;

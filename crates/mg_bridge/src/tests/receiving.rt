@@ -37,7 +37,8 @@ fn reported(host: &mut Machine<'_>) -> Result<[bool; 3], Fail> {
     Ok(marks)
 }
 
-/// A datagram is reported once, and received if it is waiting. If no datagram is waiting, the receive returns `None`.
+/// A datagram is reported once, and received if it is waiting, as far as it fits into the buffer. If no datagram is
+/// waiting, a receive returns `None`. Calls on a socket that doesn't exist fail.
 fn receive_what_waits(
     rt: &impl Abort,
     host: &mut Machine<'_>,

@@ -25,8 +25,8 @@ use Rattle.mg_commands.specs.Transaction.{target_of, id_of}
 
 -- ## Commands
 
--- The state of an action: the gateway, the action's context, the termination that its first Add
--- created, and the items of the reply so far.
+-- The state of an action: the gateway, the action's context, the first termination that an Add of the action created,
+-- and the items of the reply so far.
 pub record ActionState : Type 0 where
   pub gateway : Gateway
   pub target : Target
@@ -79,7 +79,7 @@ with_command source c run = with_trial source c run (trial_of source run.gateway
 abbrev pub unless_optional : Command → ActionState × Bool → ActionState × Bool
 unless_optional c (run, is_done) = (run, c.is_optional || is_done)
 
--- The rest is run unless a command has failed.
+-- The rest is run unless a command that is not optional has failed.
 abbrev pub continue_with : (ActionState → ActionState × Bool) → ActionState × Bool
     → ActionState × Bool
 continue_with rest (run, true) = rest run
@@ -103,7 +103,7 @@ abbrev pub action_start : Action → ActionsState → ActionState
 action_start a s =
     record { gateway = s.gateway; target = target_of a.context; made = None; items = s.items }
 
--- The end of an action: the items that report about its context, and then the context's number.
+-- The end of an action: the items that report about its context, and then the item that names the context.
 abbrev pub end_of_action : ActionState → Gateway → List Item → ActionsState
 end_of_action run w items =
     record { gateway = w; items = run.items ++ items ++ replies.Action (id_of run.target) ∷ [] }
@@ -115,7 +115,7 @@ after_properties run (Ok p) = (end_of_action run p.0 p.1, true)
 after_properties run (Err e) = (end_of_action run run.gateway (replies.Fault e ∷ []), false)
 
 -- The action after its commands, and whether it was completed. The properties follow the commands, unless a command
--- failed.
+-- that is not optional failed.
 abbrev pub after_commands : List ℕ → List ContextProperty → ActionState × Bool
     → ActionsState × Bool
 after_commands source ps (run, false) = (end_of_action run run.gateway [], false)

@@ -66,7 +66,7 @@ stream_of (media.Part x) = 1
 stream_of (media.Stream n xs) = n
 stream_of (media.TerminationState has_content) = 0
 
--- The largest stream number of the parts, or 0 if there is no part.
+-- The largest stream number of the parts, or 0 if no part belongs to a stream.
 abbrev pub greatest_stream : List MediaPart → ℕ
 greatest_stream [] = 0
 greatest_stream (x ∷ xs) = max (stream_of x) (greatest_stream xs)

@@ -38,7 +38,7 @@ check_descriptors source xs = do
 abbrev pub in_same_world : Gateway → Result Served ErrorNumber → CommandOutcome
 in_same_world w r = r >>= (λ s. Ok (w, s))
 
--- The names of all members, which `*` matches.
+-- The names of all members, which `*` matches, or the error if there are none or the command may not name them all.
 abbrev pub all_names : Gateway → Target → CommandWord → Result (List Name) ErrorNumber
 all_names w target word =
     if takes_all word then unless_empty (map names.Number (members_in w target))

@@ -18,7 +18,7 @@ pub record GoesOn {F : Type 0} (done : F → Bool) (Follows : F → List Note �
 
 -- The input was read to its end, or until a follower was done. The complete lines of its text have some notes. The
 -- state is that of a gateway at which the events of these notes arrived, and a follower has followed all these notes.
--- At most 4096 bytes were read since the follower was last asked whether it was done.
+-- At most 4096 bytes were read after the follower was last asked whether it was done.
 pub record IsFollowedUntil {F : Type 0} (config : Config) (input rest : Option (List ℕ))
     (state : CoreState) (done : F → Bool) (Follows : F → List Note → Type 0) (last : F) : Type 0 where
   pub front : List ℕ

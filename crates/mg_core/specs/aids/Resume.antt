@@ -22,7 +22,7 @@ pub record IsResumed (config : Config) (input rest : Option (List ℕ)) (state :
   pub world : World
   pub history : HasHistory config events sent world state
 
--- This line is bad behind these lines.
+-- This line is bad after these lines.
 abbrev pub IsBadAfter : List (List ℕ) → List ℕ → Type 0
 IsBadAfter lines bad = events_of (expanded false (lines ++ bad ∷ [])) ≡ None
 

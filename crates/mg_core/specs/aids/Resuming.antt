@@ -32,7 +32,7 @@ pub record KeepsUp (config : Config) (state : CoreState) (ticks : ℕ) (Follows 
   pub follows : Follows past
 
 -- These lines were read: a gateway has run their notes, and a follower has followed them, except for the ticks at their
--- end. `counts` says whether ticks are counted behind the lines.
+-- end. `counts` says whether ticks are counted after the lines.
 pub record KeepsLines (config : Config) (state : CoreState) (counts : Bool) (ticks : ℕ)
     (Follows : List Note → Type 0) (lines : List (List ℕ)) : Type 0 where
   pub notes : List Note

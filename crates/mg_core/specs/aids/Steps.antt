@@ -171,7 +171,7 @@ pub record AllRanCounted (config : Config) (shown : Shown) (script : List ℕ) (
   pub stands : StandsFor state last
   pub lines : count ≡ length (lines_of true script)
 
--- A whole input was run. If the run failed, the fault determines how far it came.
+-- A whole input was run. If the run failed, the fault determines how far it got.
 abbrev pub AllRan : Config → Shown → (input rest : Option (List ℕ)) → CoreState → ℕ → ℕ
     → (old new : Option (List ℕ)) → Result (Unit {0}) ScriptFault → Type 0
 AllRan config shown input rest state count n old new (Ok done) =

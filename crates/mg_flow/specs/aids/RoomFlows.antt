@@ -26,7 +26,7 @@ abbrev pub flows_to : TopologyState → (talks listens : ℕ) → (talker listen
 flows_to topology talks listens talker listener =
     has_seat talks talker && (has_seat listens listener && hears topology talker listener)
 
--- Whether the talker is another member that the last word mutes for the listener.
+-- Whether the talker talks, and is another member that the last word mutes for the listener.
 abbrev pub is_blocked_for : TopologyState → (talks : ℕ) → (talker listener : ℕ) → Bool
 is_blocked_for topology talks talker listener =
     has_seat talks talker

@@ -29,8 +29,8 @@ AreBefore flow xs = All (λ x. key_of x.flow < key_of flow) xs
 abbrev pub beginning_among : List OpenInterval → OpenFlow → Option Moment
 beginning_among xs flow = option_map (λ x. x.first) (find (λ x. is_same flow x.flow) xs)
 
--- An interval that begins with the earlier interval of the same flow. If its flow has no earlier interval, it is
--- unchanged.
+-- An interval whose beginning was moved back to that of the earlier interval of the same flow. If its flow has no
+-- earlier interval, it is unchanged.
 abbrev pub continued : List OpenInterval → OpenInterval → OpenInterval
 continued earlier x =
     option_map_or (λ first. record x { first = first }) (beginning_among earlier x.flow) x

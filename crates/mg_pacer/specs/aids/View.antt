@@ -9,5 +9,6 @@ pace_of s = record { polls = s.polls; steps = s.steps; left = s.left }
 pub record IsWithinBounds (s : Inside) : Type 0 where
   pub some : 0 < s.polls
   pub few : s.polls ≤ 1000
-  -- The number of steps is at most the number that is due at the largest 64-bit reading.
+  -- The number of steps that were written or skipped is at most the number that is due at the largest 64-bit reading,
+  -- rounded up.
   pub small : s.steps + s.polls * s.left ≤ 922337203685478

@@ -19,6 +19,6 @@ first_binds config address count =
     ∷ map (λ slot. Bind (unwrap_or address config.address) (slot_port (limits_of config) slot) true)
     (range_with_len 0 count)
 
--- A further control socket on each of these addresses.
+-- A further control socket for each address.
 abbrev pub other_binds : (port : ℕ) → (addresses : List (List ℕ)) → List HostCall
 other_binds port addresses = map (λ address. BindAlso address port true) addresses

@@ -20,8 +20,9 @@ is_wide (Action id) = nat_le 9 (length (action_text id []))
 abbrev pub is_too_long : Answered → Bool
 is_too_long r = r.is_long || nat_lt reply_limit (length (reply_text r.number r.items))
 
--- A new reply that gets complete items is too long if and only if the text of all the items exceeds the limit. This
--- includes the items for which there was no room. If the reply is not marked as too long, it has all items.
+-- Let each of the items be at least 10 bytes long with its comma. Let them be a single error, or let the last of them
+-- end an action. A new reply that gets these items is too long if and only if the text of all of them exceeds the
+-- limit. This includes the items for which there was no room. If the reply is not marked as too long, it has all items.
 abbrev pub TooLongByText : Type 0
 TooLongByText =
     (n : ℕ) (xs : List Item) → list_all is_wide xs ≡ true

@@ -9,7 +9,7 @@ use Rattle.mg_rooms.specs.Registry.{Registry, least_below}
 use Rattle.mg_rooms.specs.Changes.{made, joined}
 use Rattle.mg_rooms.specs.aids.Found.{members_of}
 
--- A room is free for a new context, or the existing context is not full.
+-- A new context has the next number and the lowest free room, or the existing context is not full.
 abbrev pub CanEnterAt : List Context → ℕ → ℕ → Option ℕ → Type 0
 CanEnterAt contexts next c (Some room) =
     (least_below context_limit (λ k. not (list_any (λ x. x.room == k) contexts)) ≡ Some room)

@@ -22,7 +22,7 @@ HoldsOnce {A} key t =
     (i j : ℕ) (x y : A) → slice_get t i ≡ Some (Some x) → slice_get t j ≡ Some (Some y)
     → key x ≡ key y → i ≡ j
 
--- Each entry names its own index. Its key is below the next key and occurs once.
+-- Each entry that is not empty names its own index. Its key is below the next key and occurs once.
 pub record IsTable {A : Type 0} (key spot : A → ℕ) (next size : ℕ)
     (t : List (Option A)) : Type 0 where
   pub len : length t ≡ size

@@ -1,4 +1,4 @@
--- The steps of a server: a receive, some bytes of its input, and the last line.
+-- What a server does when a datagram, bytes of its input, the last line or a step of the clock arrives.
 use Rattle.std.specs.Prelude.{◌≡◌, ℕ, ◌≤◌, Bool, true, false, List, [], ◌∷◌, ◌++◌, length, take, map}
 use Rattle.std.specs.Prelude.{Option, Result, Ok, Err}
 use Rattle.mg_clock.specs.declared.step.Step.{Step}

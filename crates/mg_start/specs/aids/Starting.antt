@@ -25,7 +25,7 @@ KeepsTimes None found = IfSome found (λ text. text ≡ [])
 KeepsTimes (Some timeline) found =
     IfSome found (λ text. (text ≢ []) × (timeline ≡ timeline_after text))
 
--- The number of ticks that a timeline has missed at this date.
+-- The number of ticks that a timeline has missed at this date, or 0 without a timeline or a date.
 abbrev pub missed_by : Option Timeline → (millis : Option ℕ) → ℕ
 missed_by None millis = 0
 missed_by (Some timeline) None = 0

@@ -4,7 +4,7 @@ use Rattle.mg_core.specs.aids.Stands.{StandsFor}
 use Rattle.mg_heard.specs.aids.Calling.{called}
 use Rattle.mg_heard.proofs.roll.call_all.Given as goal
 
--- The rolls before the index were called, and the others are unchanged.
+-- The rolls before the index are updated, and the others are unchanged.
 abbrev pub invariant-loop-roll : goal.invariant-loop-roll
 invariant-loop-roll l = record {
   begun : (w : World) → StandsFor l.core.state w →

@@ -1,4 +1,4 @@
-# Callers and a controller for a gateway on 127.0.0.1, using tools that every distribution has. Source it in a shell:
+# Callers and a controller for a gateway on 127.0.0.1, using common tools. Source it in a shell:
 #     . demo/callers.sh
 # It needs netcat-openbsd, sox, ffmpeg and GStreamer (gstreamer1.0-tools, -plugins-base, -plugins-good).
 
@@ -61,8 +61,8 @@ say_by_ffmpeg() {
         "rtp://$to?localaddr=127.0.0.1&localrtpport=$from&localrtcpport=$((from + 1))&pkt_size=172" > /dev/null
 }
 
-# Records what a caller is sent: CALLER_PORT FILE.wav SECONDS. If no packets arrive, `record` gives up 10 seconds later.
-# To hear them live, replace the last three elements with audioconvert ! audioresample ! autoaudiosink.
+# Records what a caller is sent: CALLER_PORT FILE.wav SECONDS. If too few packets arrive, `record` gives up 10 seconds
+# later. To hear them live, replace the last three elements with audioconvert ! audioresample ! autoaudiosink.
 record() {
     timeout $(($3 + 10)) gst-launch-1.0 -q udpsrc address=127.0.0.1 port="$(moved "$1")" num-buffers=$(($3 * 50)) \
         caps="application/x-rtp,media=audio,clock-rate=8000,encoding-name=PCMU,payload=0" ! \

@@ -4,16 +4,17 @@
 %% A controller for several gateways, based on Erlang's megaco as packaged by Debian: apt-get install erlang-base
 %% erlang-megaco
 %%     controller.escript [--here HOST:PORT] [--conferences N] [--members N] [--callers HOST:PORT] [--room N] GATEWAY ..
-%% A gateway is HOST:PORT. The controller makes N conferences (1) of N members (3), each on the gateway with the most
-%% room; a gateway has room for `--room` callers (256). Caller k, counted from 0, listens on the port of `--callers`
-%% (127.0.0.1:40000) plus 2k. The controller itself is at `--here` (127.0.0.1:2945). It reads lines: `isolate C A B`,
-%% `oneway C A B` (B hears A) and `release C A B`, for members A and B of conference C, where B may be `*`; `stats`; and
-%% `quit`, which ends the conferences.
+%% A gateway is HOST:PORT. Defaults are in parentheses. The controller makes N conferences (1) of N members (3), each on
+%% the gateway with the most room; a gateway has room for `--room` callers (256). Caller k, counted from 0, listens on
+%% the port of `--callers` (127.0.0.1:40000) plus 2k. The controller itself is at `--here` (127.0.0.1:2945). It reads
+%% lines: `isolate C A B`, `oneway C A B` (B hears A) and `release C A B`, for members A and B of conference C, where B
+%% may be `*`, except in `oneway`; `stats`; and `quit`, which ends the conferences and the controller.
 %%
-%% Once a second, it audits one of its terminations on each gateway. A gateway that does not answer within 1.2 s is
-%% lost; a gateway that answers with error 411 or 430 has restarted. In both cases, its conferences are recreated on
-%% other gateways, with the same isolations. The controller prints lines about these events. The `member` lines are for
-%% callers: member 3 of conference 1 listens on port 40004, and sends to port 30004.
+%% Once a second, it audits one of its terminations on each gateway, or the gateway if there is none. A gateway that
+%% does not answer within 1.2 s is lost; a gateway that answers with an error, such as 411 or 430, has restarted. In
+%% both cases, its conferences are recreated on other gateways, with the same isolations. The controller prints lines
+%% about these events. The `member` lines are for callers: member 3 of conference 1 listens on port 40004, and sends to
+%% port 30004.
 %%     gateway 127.0.0.1:2944 up
 %%     gateway 127.0.0.1:2944 lost: no answer
 %%     conference 1 on 127.0.0.1:2944 context 1764079200
@@ -85,7 +86,7 @@ connect(Here, Names) ->
         megaco:connect(Handle, mid(To), megaco_udp:create_send_handle(Socket, ToAddress, ToPort), Control)
     end,
     [{Name, element(2, {ok, _} = Connect(To))} || {Name, To} <- Known].
-%% Called by megaco. Only the gateways may connect; anything else, and anything late, is ignored.
+%% Called by megaco. Only the gateways may connect. Their requests are answered with an error, and all else is ignored.
 handle_connect({_, _, Mid}, _, Known) -> case lists:member(Mid, Known) of true -> ok; false -> error end.
 handle_disconnect(_, _, _, _) -> ok.
 handle_syntax_error(_, _, _, _) -> no_reply.
@@ -113,7 +114,8 @@ server(S = #server{up = Up, gateways = Gateways}) ->
         {line, Words} -> server(try line(Words, S) catch _:_ -> say("not understood", []), S end)
     end.
 tell(Name, Message, S) -> maps:get(Name, S#server.gateways) ! Message.
-%% Places conferences (all of a gateway's, or one by number), each on the gateway with the most room.
+%% Places conferences (those of a gateway, those that wait, or one by number), each on the gateway with the most room
+%% that isn't in Except.
 place(Which, Except, S = #server{conferences = All}) ->
     Chosen = [C || {C, #conference{gateway = Name}} <- maps:to_list(All), lists:member(Which, [Name, C])],
     lists:foldl(fun(C, T) -> place_one(C, Except, T) end, S, Chosen).

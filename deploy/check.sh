@@ -3,7 +3,8 @@
 # line for each check.
 # usage: check.sh [--missing]
 # It needs python3 and dpkg-deb. It skips a check whose program is missing: systemd-analyze, erl, rebar3, nft, promtool,
-# lintian, man, or bash. With --missing, it only prints the Debian packages that have those programs and aren't installed.
+# lintian, man, or bash. With --missing, it only prints those Debian packages with these programs that aren't installed,
+# except for rebar3 and bash.
 set -eu
 here=$(CDPATH='' cd -- "$(dirname -- "$0")" && pwd)
 

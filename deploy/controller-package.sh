@@ -1,8 +1,9 @@
 #!/bin/sh
 # Builds the Debian package lobbysorrel-controller_VERSION_all.deb from controller/. Prints its name.
 # usage: controller-package.sh [OUT-FOLDER]
-# The default folder is the current one. It needs dpkg-deb, and the Debian packages in controller/README.md. The same tree
-# results in the same bytes: files have the date of the last commit, or SOURCE_DATE_EPOCH (seconds since 1970).
+# The default folder is the current one. This script needs dpkg-deb, and the Debian packages in controller/README.md.
+# The same tree results in the same bytes: files have the date of the last commit, or SOURCE_DATE_EPOCH (seconds since
+# 1970) if that is set.
 set -eu
 here=$(CDPATH='' cd -- "$(dirname -- "$0")" && pwd)
 top=$(dirname -- "$here")

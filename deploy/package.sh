@@ -1,8 +1,8 @@
 #!/bin/sh
 # Builds the Debian package lobbysorrel_VERSION_amd64.deb from the programs in dist/. Prints its name.
 # usage: package.sh [OUT-FOLDER]
-# The default folder is the current one. It needs dpkg-deb and python3. The same tree results in the same bytes: files
-# have the date of the last commit, or SOURCE_DATE_EPOCH (seconds since 1970) if that is set.
+# The default folder is the current one. This script needs dpkg-deb and python3. The same tree results in the same
+# bytes: files have the date of the last commit, or SOURCE_DATE_EPOCH (seconds since 1970) if that is set.
 set -eu
 here=$(CDPATH='' cd -- "$(dirname -- "$0")" && pwd)
 top=$(dirname -- "$here")

@@ -1,6 +1,6 @@
-// A hand-written mixer, with which ticks are compared. It receives G.711 packets, keeps the total of each conference,
-// and sends each caller the total without its own frame. It checks less than the gateway, keeps no counters, and has
-// one mode and no topology.
+// A hand-written mixer, with which a core's ticks are compared. It receives G.711 packets, keeps the total of each
+// conference, and sends each caller the total without its own frame. It checks less than the gateway, keeps no
+// counters, and has no modes (a caller talks or not) and no topology.
 #define _POSIX_C_SOURCE 199309L
 #include <stdint.h>
 #include <stdio.h>
@@ -120,7 +120,7 @@ static void play(struct caller *c) {
     memcpy(c->frame, frame, sizeof c->frame);
 }
 
-// The first listener of a room who does not talk shares its payload with the others.
+// The first caller in a room who does not talk shares its payload with the others who do not.
 static void send(struct caller *c, uint8_t *packet, const uint8_t **lent) {
     int32_t rest[FRAME];
     int16_t mix[FRAME];

@@ -1,5 +1,5 @@
 #!/bin/sh
-# Measures a gateway's tick and the arrival of a packet, and both in hand-written C, in nanoseconds.
+# Measures a gateway's tick and the arrival of its packets, and both in hand-written C, in nanoseconds.
 # usage: run.sh [TURNS]
 # It needs rt and gcc.
 set -eu

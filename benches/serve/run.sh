@@ -4,7 +4,7 @@
 # receives and sends in C.
 # usage: run.sh CALLERS A_CONFERENCE SECONDS [SLOTS]
 # With 0 CALLERS it measures an idle gateway. TURNS=N measures each N times, in turn.
-# It needs gcc, and mg_bridge and mg_pace in dist/, or in the folder PROGRAMS.
+# It needs gcc, bc, and mg_bridge and mg_pace in dist/, or in the folder PROGRAMS.
 set -eu
 callers=$1 members=$2 seconds=$3 slots=${4:-$1}
 here=$(CDPATH= cd -- "$(dirname -- "$0")" && pwd)
@@ -15,8 +15,8 @@ trap 'rm -rf "$work"; kill $(jobs -p) 2> /dev/null || true' EXIT
 for program in load bare; do
     gcc -O2 -Wall -o "$work/$program" "$here/$program.c"
 done
-# Makes calls. Prints the processor time that a process has used since it was ready, its memory, and how many packets
-# were too late.
+# Makes calls, or only waits if there are no callers. Prints the processor time that a process has used since it was
+# ready, its memory, and how many packets were too late.
 measure() {
     name=$1 process=$2
     until grep -q ready "$work/out" 2> /dev/null; do sleep 0.1; done

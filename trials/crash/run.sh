@@ -1,7 +1,7 @@
 #!/bin/sh
 # Kills a gateway with a journal again and again during calls, and checks what callers and the controller see. Then cuts
-# off a journal after each of its bytes, makes each write to it fail, fills the disk, takes down a host, and starts with
-# long journals.
+# off a journal after its title and after each later byte, makes each write to it fail, fills the disk, takes down a
+# host, and starts with long journals.
 # usage: run.sh [--gateway PATH]
 # It needs root, gcc, python3, what standby.sh needs, and a gigabyte of disk space in the current folder. It takes
 # fifteen minutes. cost.sh measures what a journal costs.

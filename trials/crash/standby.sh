@@ -1,7 +1,7 @@
 #!/bin/sh
 # Two hosts, as network namespaces. The second follows the journal of the first. The first goes down with its gateway,
-# and the second gets its address and continues. Prints for how long a conference of eight, all talking, was sent
-# nothing, and how long it took from the end of the first host until a caller heard speech again.
+# and the second gets its address and continues. Prints the longest times for which a caller in a conference of eight,
+# all talking, was sent no packet, and no speech.
 # usage: standby.sh [--gateway PATH]
 # It needs root, ip (iproute2), socat, arping (iputils-arping) and python3. It takes fifteen seconds.
 set -eu

@@ -3,8 +3,8 @@
 # systemd, in a container.
 # usage: package.sh [FOLDER]
 # It needs what trials/package/run.sh and deploy/controller-package.sh need. It downloads a Debian 12 with Erlang (150 MB,
-# three minutes) into FOLDER/debian, unless it is there already, and leaves it unchanged. Without FOLDER, it deletes it
-# afterwards. The trial takes a minute.
+# three minutes) into FOLDER/debian, unless it is there already, and leaves it unchanged. Without FOLDER, it deletes the
+# download afterwards. The trial takes a minute.
 set -eu
 here=$(CDPATH='' cd -- "$(dirname -- "$0")" && pwd)
 [ $# -le 1 ] || { echo 'usage: package.sh [FOLDER]' >&2; exit 2; }

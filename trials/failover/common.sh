@@ -1,6 +1,5 @@
 # Starts gateways on this host, callers who follow a controller, and the controller in `demo`. run.sh and cost.sh
-# source it. BRIDGE is the program; by default it is the one that `rt run` leaves in crates/mg_bridge/out. If that is
-# missing, it is proved and built first, which takes half an hour.
+# source it after gateway_option.sh.
 root=$here/../..
 bridge=${BRIDGE:-$root/crates/mg_bridge/out/mg_bridge}
 [ -x "$bridge" ] || (cd "$root/crates/mg_bridge" && rt run -- --help > /dev/null)

@@ -2,7 +2,7 @@
 # Compares the processor time of four gateways with 64 callers each with that of one gateway with 256 callers, in as
 # many conferences. It is the user and system time in /proc/PID/stat while all callers speak. Runs of one gateway and of
 # four alternate, and the minimum counts.
-# usage: cost.sh [SECONDS] [TURNS]
+# usage: cost.sh [--gateway PATH] [SECONDS] [TURNS]
 # It needs what run.sh needs.
 set -eu
 seconds=${1:-30} turns=${2:-3}

@@ -1,9 +1,10 @@
 #!/bin/bash
 # Runs four gateways on this host under the controller in `demo`, with 64 callers on each. One is killed; later another
-# is killed and restarts at once. Each time its callers must hear the others again within 3 s, on another gateway.
-# Isolated callers must hear nobody, and the callers of the other gateways must not miss a packet.
-# usage: run.sh
-# It exits with 0 if all of this holds. It needs gcc and Erlang (erlang-base, erlang-megaco), and takes half a minute.
+# is killed and restarts at once. Each time, the callers of the killed gateway must hear the others again within 3 s, on
+# another gateway. Isolated callers must hear nobody, and the callers of the other gateways must not miss a packet.
+# usage: run.sh [--gateway PATH]
+# It tests the program in dist/, or the one at PATH, and exits with 0 if all of this holds. It needs gcc and Erlang
+# (erlang-base, erlang-megaco), and takes half a minute.
 set -eu
 here=$(CDPATH= cd -- "$(dirname -- "$0")" && pwd)
 . "$here/common.sh"

@@ -1,7 +1,7 @@
 #!/bin/sh
 # Draws the output of a replay with --flows as demo/recording.html shows it, with the pointer at TICK in ROW (from 0).
 # usage: draw.sh SHOWN.txt PICTURE.png [TICK [ROW [WIDTH,HEIGHT]]]
-# It needs chromium. docs/recording.png was made with it.
+# It needs chromium. docs/recording.png was made with this script.
 set -eu
 here=$(CDPATH= cd -- "$(dirname -- "$0")" && pwd)
 shown=$1 picture=$2 tick=${3:-0} row=${4:-0} size=${5:-1200,640}

@@ -1,9 +1,9 @@
 #!/bin/sh
 # Sends random bursts of datagrams to the ports of gateways that poll in between, and checks that every datagram
 # arrives. Prints how many schedules it ran, and exits with 1 at the first failure.
-# usage: run.sh [SCHEDULES] [SEED]
-# It needs gcc, python3 and rt. It runs the `mg_bridge` that `rt run` leaves in crates/mg_bridge/out. Anything that
-# isn't built yet is proved and built first, which takes half an hour. 10,000 schedules take half a minute.
+# usage: run.sh [--gateway PATH] [SCHEDULES] [SEED]
+# It needs gcc and python3, and tests the program in dist/, or the one at PATH. 10,000 schedules, the default, take half
+# a minute.
 set -eu
 here=$(CDPATH= cd -- "$(dirname -- "$0")" && pwd)
 root=$here/../..

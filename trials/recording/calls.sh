@@ -1,11 +1,12 @@
 #!/bin/bash
 # Calls a gateway that records, under a controller that keeps changing conferences, and replays the recording. Checks,
-# for each port of the gateway and of a caller, that the recording has the datagrams that were sent, and the replay
-# those that arrived, in order.
-# usage: calls.sh [--wrong[=KIND]] [SECONDS] [CALLERS]
-# With --wrong, a line of this kind (rtp, tick or control) is removed from the middle of the recording before the
-# replay, and the difference must be found.
-# It needs gcc, and 1.5 GB for ten minutes of 128 callers. Exits with 0 if every check passes.
+# for each pair of a gateway's port and another port, that the recording has the datagrams that were sent, and the
+# replay those that arrived, in order.
+# usage: calls.sh [--gateway PATH] [--wrong[=KIND]] [SECONDS] [CALLERS]
+# With --wrong, a line of this kind (rtp, tick or control; rtp by default) is removed from the middle of the recording
+# before the replay, and the difference must be found.
+# It tests the program in dist/, or the one at PATH. It needs gcc, and 1.5 GB for ten minutes of 128 callers. Exits with
+# 0 if every check passes.
 set -euo pipefail
 wrong='' wanted=0
 case ${1:-} in

@@ -1,7 +1,6 @@
-# The gateway and the tools of this folder. calls.sh and cost.sh source it, and set how many callers there are. BRIDGE
-# is the program; by default it is the one that `rt run` leaves in crates/mg_bridge/out. If that is missing, it is
-# proved and built first, which takes half an hour. Recordings go into a new folder in TMPDIR or /tmp, which is removed
-# at the end. They take 70 MB per caller and hour.
+# The gateway and the tools of this folder. calls.sh and cost.sh source it after gateway_option.sh, and set how many
+# callers there are. Recordings go into a new folder in TMPDIR or /tmp, which is removed at the end. They take 70 MB per
+# caller and hour.
 root=$here/../..
 bridge=${BRIDGE:-$root/crates/mg_bridge/out/mg_bridge}
 [ -x "$bridge" ] || (cd "$root/crates/mg_bridge" && rt run -- --help > /dev/null)

@@ -2,7 +2,7 @@
 # Measures the cost of recording: the processor time of a gateway with --record and without, in turn, and the size of
 # the recording, before and after gzip. The time is the user and system time in /proc/PID/stat from the start to the end
 # of the calls.
-# usage: cost.sh [SECONDS] [CALLERS] [TURNS]
+# usage: cost.sh [--gateway PATH] [SECONDS] [CALLERS] [TURNS]
 # It needs what calls.sh needs, and gzip.
 set -eu
 seconds=${1:-60} callers=${2:-128} turns=${3:-3}

@@ -4,10 +4,11 @@
  *              that isn't a standard stream, append (a write), sync or cut
  * REFUSE_AT    which call of that kind fails, counted from 1; 0 or absent: none
  * REFUSE_THEN  a kind of which each call fails once that call has failed
- * REFUSE_TOLD  a file that is created when a call fails
- * REFUSE_PIECE the maximum number of bytes in a read, a write or an append; 0 or absent: no limit
+ * REFUSE_TOLD  a file that is created when that call fails
+ * REFUSE_PIECE the maximum number of bytes in a read or a write of a regular file, or of standard input or output; 0 or
+ *              absent: no limit
  *
- * An allocation fails by returning NULL, and any other call with EIO. */
+ * An allocation fails with ENOMEM, and any other call with EIO. */
 #define _GNU_SOURCE
 #include <dlfcn.h>
 #include <errno.h>
@@ -48,7 +49,7 @@ __attribute__((constructor)) static void start(void)
     then = getenv("REFUSE_THEN");
 }
 
-/* Whether this call of a kind is the one that fails. */
+/* Whether this call of a kind fails. */
 static int is_refused(const char *of)
 {
     if (then && at && calls >= at && strcmp(then, of) == 0)

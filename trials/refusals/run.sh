@@ -2,9 +2,9 @@
 # Makes each allocation, read, write, receive, send and wait of the gateway fail in turn, one per run, until no such
 # call is left. Checks what happens after each failure. Prints how many runs there were, and exits with 1 at the first
 # run that goes wrong.
-# usage: run.sh
-# It needs gcc, python3 and rt. It runs the `mg_bridge` that `rt run` leaves in crates/mg_bridge/out. Anything that
-# isn't built yet is proved and built first, which takes half an hour. The runs take less than a minute.
+# usage: run.sh [--gateway PATH]
+# It needs gcc, python3 and rt, and tests the program in dist/, or the one at PATH. It also tests a core alone, in a
+# program that rt proves and builds first, with the crates below it. The runs take less than a minute.
 set -eu
 here=$(CDPATH= cd -- "$(dirname -- "$0")" && pwd)
 root=$here/../..
@@ -58,7 +58,8 @@ is_whole_lines() {
     [ -z "$(tail -c 1 "$work/out")" ] || wrong 'what was written ends within a line'
 }
 
-# Checks that the output is that of the complete lines in the script's first bytes: COUNT
+# Checks that the output is that of the complete lines in the script's first COUNT bytes.
+# usage: is_of_bytes COUNT
 is_of_bytes() {
     head -c "$1" "$script" > "$work/bytes"
     head -n "$(wc -l < "$work/bytes")" "$work/bytes" > "$work/lines"
@@ -88,7 +89,7 @@ spared=0
 k=1
 while replay memory "$k"; was_refused; do
     if [ "$status" = 0 ]; then
-        # It first allocates for all arguments at once, and then for one.
+        # The program first allocates for all arguments at once, and then for one.
         spared=$((spared + 1))
         [ "$spared" = 1 ] || wrong 'not status 4'
         is_whole "$output"

@@ -1,8 +1,8 @@
 #!/bin/sh
 # Stops a running gateway for a few seconds during calls, and checks what callers are sent when it resumes.
-# usage: run.sh [CALLERS] [SECONDS]
-# It needs python3 and rt. It runs the `mg_bridge` that `rt run` leaves in crates/mg_bridge/out. Anything that isn't
-# built yet is proved and built first, which takes half an hour. The trial takes five seconds plus the stall.
+# usage: run.sh [--gateway PATH] [CALLERS] [SECONDS]
+# It needs python3, and tests the program in dist/, or the one at PATH. The default is 16 callers and 5 seconds. It takes
+# five seconds longer than the stall.
 set -eu
 here=$(CDPATH= cd -- "$(dirname -- "$0")" && pwd)
 root=$here/../..

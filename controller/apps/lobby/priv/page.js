@@ -28,8 +28,8 @@ const button = (text, onclick, properties) => element("button", { type: "button"
 const option = (value, text) => element("option", { value }, text);
 const put = (it, text) => { if (it.textContent !== text) it.textContent = text; };
 
-// Keeps a name from reordering or hiding other text. Invisible characters are shown as numbers, and Unicode's isolates
-// enclose the rest.
+// Keeps a name from reordering or hiding other text. Invisible characters are shown as numbers, a long name is cut, and
+// Unicode's isolates enclose a name that isn't ASCII.
 function shown(text) {
   const plain = [...text.replace(/[\p{C}\p{Zl}\p{Zp}\p{Default_Ignorable_Code_Point}\u2800]|[^\S ]/gu,
     it => `<${it.codePointAt(0).toString(16).toUpperCase()}>`).replace(/(\p{M}\p{M})\p{M}+/gu, "$1…").trim()];
@@ -55,7 +55,7 @@ function say(text) { put($("error"), text); }
 // Milliseconds for which a change is highlighted.
 const MARK = 2000;
 
-// Shows what was done, with a button that undoes it.
+// Shows what was done, with a button that undoes it, if that is possible.
 function done(text, undo) {
   const again = undo && button("Undo", () => { $("done").replaceChildren(); attempt(undo); });
   $("done").replaceChildren(text, ...again ? [again] : []);
@@ -64,7 +64,7 @@ async function attempt(action) {
   try { await action(); say(""); } catch (failure) { say(failure.message); }
   soon();
 }
-// Carries out an action, reports it, and offers to undo it.
+// Carries out an action, reports it, and offers to undo it, if that is possible.
 const act = (text, action, undo) => attempt(async () => { await action(); done(text, undo); });
 function sure(text) {
   const dialog = $("sure");

@@ -1,5 +1,5 @@
 %%% @doc Decides who may send SIP messages or connect, and limits each address, so that no address can use up the
-%%% capacity. Trusted proxies serve many callers, and have no limits by address.
+%%% capacity. Trusted proxies serve many callers, and have no per-address limits.
 -module(lobby_admission).
 
 -export([new/1, message/3, call/4, entered/4, left/2]).

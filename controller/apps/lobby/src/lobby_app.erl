@@ -1,4 +1,4 @@
-%%% @doc The OTP application, and the commands that start it.
+%%% @doc The OTP application, the command that starts it, and the operator's commands for a pair.
 -module(lobby_app).
 -behaviour(application).
 

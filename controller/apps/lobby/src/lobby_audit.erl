@@ -14,7 +14,7 @@
 -type config() :: #{file := file:filename(), bytes := pos_integer(), files := pos_integer()} | none.
 %% A call: the member's id, entries about the caller, and the rooms, roles and codecs that the call has had.
 -type call() :: {lobby_rules:id(), lobby_audit_core:entry(), lobby_audit_core:seen()}.
-%% `lost': whether the last write failed. `packets': how many packets gateways have received from members, by
+%% `lost': whether the last write failed. `packets': how many packets gateways have received from each member, by
 %% termination.
 -record(state, {config :: config(), file = none :: file:fd() | none, size = 0 :: non_neg_integer(),
                 number = 0 :: non_neg_integer(), lost = false :: boolean(),
@@ -24,14 +24,14 @@
 -define(ALL, 16#FFFFFFFF).
 %% The number of bytes to read at the end of a file. They contain at least one whole line.
 -define(END, 262144).
-%% Milliseconds for which a change waits until its line is written.
+%% The maximum number of milliseconds for which a change waits until its line is written.
 -define(PATIENCE, 2000).
 
 -spec start_link(config()) -> gen_server:start_ret().
 start_link(Config) ->
     gen_server:start_link({local, ?MODULE}, ?MODULE, Config, []).
 
-%% @doc Writes a line, and waits until the kernel has it.
+%% @doc Writes a line, and waits up to two seconds until the kernel has it.
 -spec write(lobby_audit_core:entry()) -> ok.
 write(Entry) ->
     try gen_server:call(?MODULE, {write, Entry}, ?PATIENCE) catch exit:_ -> lost("it wasn't written in time", true) end.
@@ -61,8 +61,8 @@ ended(Call = {Id, _, _}, Began, Why) ->
 about({Id, About, Seen}) ->
     [{member, Id} | About] ++ [{Key, lists:reverse(Values)} || {Key, Values} <- maps:to_list(Seen)].
 
-%% @doc Returns the lines that a query selects, in the order of their numbers, and whether there are more. Throws
-%% `no_audit_log' if no log is configured.
+%% @doc Returns the first 1,000 lines that a query selects, in the order of their numbers, and whether there are more.
+%% Throws `no_audit_log' if no log is configured.
 -spec read(lobby_audit_core:query()) -> {ok, #{lines := [#{binary() => term()}], more := boolean()}}.
 read(Query) ->
     read(Query, ?MAX_LINES).
@@ -92,8 +92,8 @@ selected(Query, Max, Fd) ->
         _ -> []
     end.
 
-%% @doc Returns the contents of a file for `mg_bridge heard --names'. Throws like `read/1' and
-%% `lobby_audit_core:names/1'.
+%% @doc Returns the contents of a file for `mg_bridge heard --names'. Throws what `read/1' and
+%% `lobby_audit_core:names/1' throw.
 -spec names(lobby_audit_core:query()) -> iolist().
 names(Query) ->
     {ok, #{lines := Lines}} = read(Query, ?ALL),
@@ -152,7 +152,8 @@ rotated(Length, State = #state{config = #{file := File, bytes := Bytes, files :=
     Closed;
 rotated(_, State) -> State.
 
-%% Opens the file. An earlier process may have left an incomplete last line, so a line feed is written first.
+%% Opens the file. An earlier process may have left an incomplete last line, so a line feed is written first if the file
+%% isn't empty.
 opened(State = #state{file = none, config = #{file := Name}}) ->
     case file:open(Name, [append, raw, binary]) of
         {ok, File} ->

@@ -32,7 +32,8 @@ is_in(Address, Networks) ->
 
 number({A, B, C, D}) -> (A bsl 24) bor (B bsl 16) bor (C bsl 8) bor D.
 
-%% @doc Classifies the sender at an address. If no networks of callers are configured, every other address is a caller.
+%% @doc Classifies the sender at an address. If no networks of callers are configured, every address that isn't a
+%% proxy's is a caller's.
 -spec sender(inet:ip4_address(), #{callers := [network()], proxies := [network()], _ => _}) ->
           proxy | caller | stranger.
 sender(Address, #{callers := Callers, proxies := Proxies}) ->
@@ -70,7 +71,7 @@ check(Request, Address, Users, Auth) ->
         _ -> challenges(Request, Address, Auth, Now, [])
     end.
 
-%% RFC 7616, section 3.4.1. The URI in the digest must name the same room as the request.
+%% RFC 7616, section 3.4.1. The URI in the digest must name the same room and host as the request.
 is_proved(#{<<"username">> := User, <<"realm">> := <<"lobby">>, <<"nonce">> := Nonce, <<"uri">> := Uri,
             <<"qop">> := <<"auth">>, <<"nc">> := Count, <<"cnonce">> := Chosen, <<"response">> := Response} = Digest,
           Request = #sip{method = Method}, Users, #auth{algorithms = Algorithms}) when is_map_key(User, Users) ->
@@ -94,7 +95,7 @@ hash(Algorithm, Text) ->
 is_same(Text, #sip{uri = #uri{user = User, host = Host}}) ->
     case catch lobby_sip_decoder:uri(Text) of #uri{user = User, host = Host} -> true; _ -> false end.
 
-%% A count that isn't above the last one belongs to a replayed or duplicate request.
+%% A request whose count is malformed, or isn't above the last one, counts as a replay.
 counted(Nonce, Text, Auth = #auth{used = Used}) ->
     case {catch binary_to_integer(Text, 16), maps:get(Nonce, Used, 0)} of
         {Count, Last} when is_integer(Count), Count > Last, byte_size(Text) =:= 8 ->
@@ -128,7 +129,8 @@ age(Nonce, Method, Address, Auth, Now) ->
         _ -> unknown
     end.
 
-%% @doc Returns the proved identity of an INVITE's sender. In an admitted request, P-Asserted-Identity can be trusted.
+%% @doc Returns the proved or asserted identity of an INVITE's sender. In an admitted request, P-Asserted-Identity can
+%% be trusted.
 -spec identity(lobby_sip_message:message()) -> binary() | none.
 identity(Invite) ->
     case lobby_sip_message:headers('p-asserted-identity', Invite) of

@@ -1,8 +1,8 @@
 %%% @doc The process of a call: a caller's dialog, and the caller's desired state in a room (`lobby_person').
 %%%
 %%% This process also handles the transactions of its dialog. It answers a retransmitted request with the same response.
-%%% It retransmits its 200 until the ACK arrives (RFC 3261, section 13.3.1.4), and its own requests until they are
-%%% answered.
+%%% It retransmits its 200 until the ACK arrives (RFC 3261, section 13.3.1.4), and, over UDP, its own requests until
+%%% they are answered. It gives up after a timeout.
 %%%
 %%% States: `starting': the room hasn't admitted the caller yet. `confirming': our 200 waits for its ACK. `talking': the
 %%% call is established. `offering': our re-INVITE waits for a response. `ending': our BYE waits for a response.
@@ -24,14 +24,14 @@
 %% which an idle call hibernates.
 -define(HEAP, 4096).
 -define(IDLE, 1000).
-%% In milliseconds: the timeout for admitting a new caller, and the interval between attempts while no gateway has a
-%% free seat. Then, the interval at which a row is sent again to a room that hasn't reported it.
+%% In milliseconds: the timeout for admitting a new caller, the interval between attempts while no gateway has a free
+%% seat, and the interval at which a row is sent again to a room that hasn't reported it.
 -define(LET_IN, 5000).
 -define(RETRY, 250).
 -define(AGAIN, 1000).
-%% Milliseconds of speech in a packet. The gateway sends speech to a caller from the first multiple of this time after
-%% the ACK. This batches callers, because a gateway answers a thousand requests a second, and newcomers wait for its
-%% replies.
+%% Milliseconds of speech in a packet. The gateway is asked to send speech to a caller at the first multiple of this
+%% time after the ACK. This batches callers, because a gateway answers a thousand requests a second, and newcomers wait
+%% for its replies.
 -define(PACKET, 20).
 %% The media of a caller who hasn't offered any yet. The caller is added as Inactive, and the gateway sends nothing to
 %% this address.
@@ -71,7 +71,7 @@
                %% The state, and the actions of gen_statem after this event.
                state = talking :: state(), out = [] :: [gen_statem:action()]}).
 %% The reason for a change of the media, which decides how the call continues: the first INVITE, a later request, or an
-%% answer to our offer.
+%% answer to our offer. With `none', the call continues as it is.
 -type purpose() :: invite | {change, lobby_sip_message:message()} | answer | none.
 
 %% @doc Starts a call for an initial INVITE.
@@ -86,7 +86,7 @@ start_link(Room, Invite, Source) ->
     Options = [{hibernate_after, ?IDLE}, {spawn_opt, [{min_heap_size, ?HEAP}]}],
     lobby_keeper:running(gen_statem:start_link(Name, ?MODULE, {Room, Invite, Source}, Options)).
 
-%% @doc Returns the names that members give themselves, by id.
+%% @doc Returns, by id, the names that callers give themselves, and those in members' links.
 -spec callers([lobby_person:row()]) -> #{binary() => binary()}.
 callers(Rows) ->
     maps:from_list([{Id, lobby_dialog:caller(dialog(Kept))}
@@ -219,7 +219,7 @@ event({timeout, acknowledged}, true, Call = #call{state = State}) when State =/=
     person({change, {media, none}, #{acknowledged => true}}, Call);
 event({timeout, let_in}, join, Call = #call{state = starting}) ->
     person({join, {joins, invite}}, Call);
-%% No gateway had a free seat in time, or the INVITE has expired.
+%% The caller wasn't admitted in time, or the INVITE has expired.
 event({timeout, let_in_at_all}, over, Call = #call{state = starting, changing = Invite}) ->
     case lobby_session_timer:invitation(Invite) < ?LET_IN of
         true -> refuse(487, [], Call);
@@ -287,8 +287,8 @@ media(_, _, Call) ->
 received_at({ok, Local}, Call) -> Call#call{local = Local, changing = none};
 received_at({error, _}, Call) -> Call#call{changing = none}.
 
-%% Handles a room's report. If the gateway receives the caller at another address, the caller is re-invited. If the
-%% gateway refuses the caller's media, the call ends.
+%% Handles a room's report. If the address at which the gateway receives the caller has changed, the caller is
+%% re-invited. If the gateway refuses the caller's media, and has no earlier ones, the call ends.
 reported(_, stopped) ->
     stopped;
 %% The room may have missed that the caller agreed, so it is notified again.
@@ -462,7 +462,8 @@ reply(Status, Request, Source, Call) ->
     _ = lobby_sip:answer(Status, {[], <<>>}, Request, Source),
     Call.
 
-%% Answers a retransmitted INVITE with the stored response.
+%% Answers a retransmitted INVITE with the stored response, or with 100 if the gateway hasn't accepted the INVITE's
+%% offer yet.
 again(Request, Call = #call{source = Source, response = Last, changing = none}) when Last =/= none ->
     case {lobby_dialog:is_same_transaction(Request, Last), lobby_sip_message:tag(to, Request)} of
         {true, _} -> ok = lobby_sip:send(lobby_sip_message:response_target(Request, Source), Last), Call;

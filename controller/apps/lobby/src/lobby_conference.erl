@@ -12,8 +12,9 @@
 %%% activated once the flow is closed. A member from another room isn't added before that room has released the member,
 %%% and a room releases only inactive members.
 %%%
-%%% The gateway's state is known from its replies. After an unexpected reply, or a request that may or may not have been
-%%% run, this state counts as unknown: `doubt/1' schedules audits of the terminations, modes and flows.
+%%% The gateway's state is known from its replies. After an unexpected reply (except to a Subtract, which is sent
+%%% again), or a request that may or may not have been run, this state counts as unknown: `doubt/1' schedules audits of
+%%% the terminations, modes and flows.
 -module(lobby_conference).
 
 -export([new/0, want/2, leave/2, expel/2, cleared/4, set_rules/2, forget/1, resume/3, check/1, unblock/1]).
@@ -23,12 +24,11 @@
 -export_type([conference/0, step/0, event/0, held/0, place/0, holding/0, owner/0]).
 
 -define(NO_FLOWS, sets:new([{version, 2}])).
-%% The maximum number of commands in a request. An Add takes about 150 of a request's 8,192 bytes, and its result as
-%% many of a reply's 16,000.
+%% The maximum number of commands with media in a request, and of other commands. An Add takes about 150 of a request's
+%% 8,192 bytes, and its result takes as many of a reply's 16,000.
 -define(MAX_ADDS, 24).
 -define(MAX_COMMANDS, 60).
-%% The size of the largest conference whose topology fits in a reply, and whose modes do, even if all numbers have ten
-%% digits.
+%% The size of the largest conference whose topology and modes each fit in a reply, even if all numbers have ten digits.
 -define(MAX_AUDITED, 29).
 
 %% Error codes which mean that a context doesn't exist, or that a termination isn't in it.
@@ -70,9 +70,9 @@
 -type step() :: {subtract, [place()]} | {modify, [{id(), lobby_h248:mode()}]}
                 | {connect, lobby_rules:flows()} | {add, [{row(), lobby_h248:mode()}], lobby_rules:flows()}
                 | {move, {id(), lobby_h248:mode()}, lobby_rules:flows()} | {settle, [row()]} | inventory | topology.
-%% `refused': the gateway refused the member's media, and still uses these media, if any. `full': the gateway has no
-%% capacity for the member at the moment. `failed': a reply was unexpected. `counts': the number of packets that each
-%% termination has received.
+%% `refused': the gateway refused the member's media with this code; the last element has the media that it still uses.
+%% `full': the gateway has no capacity for the member at the moment. `failed': a request failed, or its reply was
+%% unexpected. `counts': the number of packets that each termination has received.
 -type event() :: {refused, id(), Code :: pos_integer(), lobby_h248:media() | none} | {full, id()} | repaired | strays
                | failed | {counts, #{lobby_h248:termination() => non_neg_integer()}}.
 
@@ -171,7 +171,8 @@ still_arriving(_, _) -> true.
 
 %% @doc Restores the state of a restarted room from the terminations that the gateway's process has noted for it.
 %% `Others' has the rows of people in other rooms: their terminations are silenced, and handed over to those rooms. A
-%% termination without a row is subtracted.
+%% termination is subtracted if it has no row or is in another context of this room, or if it was given to this room
+%% although its member is elsewhere.
 -spec resume([holding()], Others :: #{id() => row()}, conference()) -> conference().
 resume(Holdings, Others, C) ->
     Context = lists:last([new | lists:sort([In || #{context := In, given := false} <- Holdings])]),
@@ -273,7 +274,7 @@ row(Id, #conference{members = Members}) ->
         [] -> none
     end.
 
-%% @doc Returns the address and format in which the gateway receives a member.
+%% @doc Returns the address at which the gateway receives a member's media, and their format.
 -spec local(id(), conference()) -> {ok, lobby_h248:media()} | none.
 local(Id, #conference{held = Held}) ->
     case Held of
@@ -292,7 +293,8 @@ holding(Id, #conference{context = Context, held = Held}) ->
     #{Id := #held{termination = T, local = Local}} = Held,
     #{termination => T, context => Context, member => Id, local => Local, given => true}.
 
-%% @doc Returns the flows that are open on the gateway according to its replies: both topology and modes allow them.
+%% @doc Returns the flows that are open on the gateway according to its replies: both topology and modes allow them. A
+%% mode that is unknown counts as allowing them.
 -spec flows(conference()) -> lobby_rules:flows().
 flows(#conference{open = Open, held = Held}) ->
     sets:filter(fun({Talker, Listener}) -> case Held of
@@ -305,7 +307,7 @@ flows(#conference{open = Open, held = Held}) ->
 %%% The next request.
 
 %% @doc Returns the next step: a request; `release' if a termination can go to its member's new room; or `settled' if
-%% the gateway has the desired state, except for what it refuses.
+%% the gateway has the desired state, except for what it refuses and for members whom another room hasn't released.
 -spec next(conference()) ->
           {{request, lobby_h248:action(), step()} | {release, row(), lobby_h248:termination()} | settled, conference()}.
 next(C0) ->
@@ -484,12 +486,12 @@ termination(Id, #conference{held = Held}) -> (maps:get(Id, Held))#held.terminati
 
 %%% The gateway's reply.
 
-%% @doc Notes the result of a step. Here, a termination was released: another room has it now.
+%% @doc Notes the result of a step. The first clause is for a termination that was released: another room has it now.
 -spec done(step() | {released, id()}, {ok, lobby_h248:reply(), owner()} | {error, pos_integer() | busy | lost} | done,
            conference()) -> {[event()], conference()}.
 done({released, Id}, done, C = #conference{held = Held, departing = Departing}) ->
     {[], ended(C#conference{held = maps:remove(Id, Held), departing = maps:remove(Id, Departing)})};
-%% Here, the gateway replied to the action of a step, or the request failed.
+%% The gateway replied to the action of a step, or the request failed.
 done(_, {error, _}, C) ->
     failed(C);
 done(Step, {ok, Reply = #{results := Results}, Owners}, C) ->

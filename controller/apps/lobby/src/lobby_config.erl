@@ -45,7 +45,7 @@ checked(Env) ->
     #{gateways := Gateways, pair := Pair, store := Store} = Config,
     Names = [Name || #{name := Name} <- Gateways],
     _ = [wrong("a pair needs {store,disc}", []) || Pair =/= none, Store =:= memory],
-    %% Otherwise, keepalived might give the address to the other host before this time has passed.
+    %% With a longer gap, keepalived might give the address to the other host before the gap has passed.
     _ = [wrong("gap must be at most 250, unless lease is a file", []) || #{lease := address, gap := Gap} <- [Pair], Gap > 250],
     _ = [wrong("self and peer are both ~0p", [Node]) || #{self := Node, peer := Node} <- [Pair]],
     _ = [wrong("two gateways have the name ~0p", [Name]) || Name <- Names -- lists:usort(Names)],

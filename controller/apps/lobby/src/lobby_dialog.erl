@@ -60,7 +60,7 @@ after_refusal(Status) when Status =:= 408; Status =:= 481 -> ended;
 after_refusal(491) -> again;
 after_refusal(_) -> goes_on.
 
-%% @doc Updates the caller's Contact from a re-INVITE, an UPDATE or a response to ours (section 12.2).
+%% @doc Updates the caller's Contact from a re-INVITE, an UPDATE, or a response to our re-INVITE (section 12.2).
 -spec refreshed(lobby_sip_message:message(), dialog()) -> dialog().
 refreshed(Message, D) ->
     case lobby_sip_message:headers(contact, Message) of

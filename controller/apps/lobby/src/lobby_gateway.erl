@@ -14,7 +14,7 @@
 -define(ORPHANS, 5000).
 
 -type name() :: term().
-%% A gateway, with a number that rises each time the gateway is lost.
+%% A gateway, with a number that rises each time the gateway is lost or drained.
 -type handle() :: {name(), Generation :: pos_integer()}.
 %% `here': the controller's own address, which the gateway must accept. `audit': milliseconds between audits. `returns':
 %% milliseconds for which the controller waits for a lost gateway to return; 0 for a gateway without a journal.
@@ -40,15 +40,16 @@ new_loads() ->
 -spec cast(handle(), tuple()) -> ok.
 cast({Name, _}, Event) -> gen_server:cast(via(Name), Event).
 
-%% @doc Reserves seats for these members of a room. Returns `false' if the gateway has too few seats, or isn't running.
+%% @doc Reserves seats for these members of a room. Returns `false' if the gateway has too few seats or contexts, has
+%% been lost or drained, or its process isn't running.
 -spec reserve(handle(), lobby_room:name(), [lobby_rules:id()]) -> boolean().
 reserve(Handle = {Name, _}, Room, Ids) ->
     try gen_server:call(via(Name), {reserve, Handle, Room, Ids})
     catch exit:{_, {gen_server, call, _}} -> false
     end.
 
-%% @doc Starts or stops draining a gateway. While a gateway is being drained, its rooms leave it, and it accepts no new
-%% ones.
+%% @doc Starts or stops draining a gateway. While a gateway is being drained, its rooms move to other gateways that have
+%% seats, and no room chooses it.
 -spec drain(name(), boolean()) -> ok | {error, no_gateway}.
 drain(Name, Is) ->
     try gen_server:call(via(Name), {drain, Is})

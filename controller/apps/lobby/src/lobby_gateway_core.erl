@@ -6,24 +6,25 @@
 %%%
 %%% - If the gateway doesn't answer, it is lost. It is lost sooner if its host reports repeatedly that the port is
 %%%   closed (ICMP).
-%%% - If an audit shows another termination or none, the gateway has restarted and lost its conferences. Each request
-%%%   also begins with an audit of the sentinel, so a restarted gateway runs none of them.
+%%% - If an audit shows another termination or none, the gateway has restarted and lost its conferences. Requests of
+%%%   rooms, and subtractions of their terminations, also begin with an audit of the sentinel, so a restarted gateway
+%%%   runs none of them.
 %%% - A gateway with a journal doesn't count as lost at once: the controller waits for its return. If the gateway comes
 %%%   back with the sentinel, it also has all other terminations, and its conferences continue.
 %%% - If a lost gateway answers again and still has the sentinel, it was only unreachable, or hung. Its conferences have
-%%%   been recreated elsewhere by now, so its own terminations are subtracted first. These requests are sent at once, so
-%%%   that a gateway that hangs reads them before it sends anything. A node of a pair waits until the gateway answers,
-%%%   and until the nodes agree again.
-%%% - A gateway that is being drained accepts no new rooms, and its rooms leave it, one after the other. Once it has no
+%%%   been recreated elsewhere by now, so the terminations that it still has are subtracted first. These requests are
+%%%   sent at once, so that a gateway that hangs reads them before it sends anything. A node of a pair waits until the
+%%%   gateway answers, and until the nodes agree again.
+%%% - A gateway that is being drained gets no new rooms, and its rooms leave it, one after the other. Once it has no
 %%%   terminations of ours, the sentinel is subtracted, too, and the gateway is sent nothing until it is to serve again.
-%%% - If an earlier process or another node has used the gateway before, its conferences continue. Requests are stored
-%%%   before they are sent, and repeated under their names until they are answered, because only the replies name the
-%%%   terminations that they created. Then this process uses its own number, in an audit. After the reply, a gateway
+%%% - If an earlier process or another node has used the gateway before, its conferences continue. Requests of rooms are
+%%%   stored before they are sent, and repeated under their names until they are answered, because only the replies name
+%%%   the terminations that they created. Then this process uses its own number, in an audit. After the reply, a gateway
 %%%   with a fence runs no request of an earlier run, and the rooms learn which terminations they have.
 %%% - If the gateway answers checks, but not this process, another controller has a higher number.
 %%%
-%%% A gateway gets a new handle each time it is lost, so that a room that missed the loss can't command it with the old
-%%% handle.
+%%% A gateway gets a new handle each time it is lost or drained, so that a room that missed the loss can't command it
+%%% with the old handle.
 -module(lobby_gateway_core).
 
 -export([new/1, handle/3, handle_of/1, orphans/3]).
@@ -118,8 +119,8 @@ orphans(Find, GatewayOf, G = #gateway{seats = Seats}) ->
               %% The room has left the gateway, and this process failed before it learned that.
               orelse not Given andalso GatewayOf(Room) =/= Own].
 
-%% Returns whether a termination's member has gone: the call has ended, or the member is in another room and doesn't
-%% move from the termination's room.
+%% Returns whether a termination's member has gone: the call has ended, or the member is in another room and isn't
+%% moving there from the termination's room.
 is_left_behind(_, error) -> true;
 is_left_behind(#{room := Room}, {ok, #{room := In, from := From}}) -> In =/= Room andalso From =/= Room.
 
@@ -189,7 +190,7 @@ event({received, {error, Code}}, _, G = #gateway{config = #{name := Name}}) ->
     act({log, warning, "gateway ~p rejected a message: error ~b", [Name, Code]}, G#gateway{refused = none});
 event(refused, Now, G = #gateway{state = serving, refused = none}) ->
     G#gateway{refused = Now};
-%% The gateway isn't lost after the first repeated refusals, because it may be about to restart.
+%% The gateway counts as lost only if it is still refusing after a while, because it may be about to restart.
 event(refused, Now, G = #gateway{state = serving, refused = Since, config = #{retry := Retry}})
   when Now - Since >= 2 * Retry ->
     gone(refused, Now, G);
@@ -258,8 +259,8 @@ check(G = #gateway{state = State, checked = Is}) when State =/= serving, State =
     act({send, lobby_h248:check()}, G#gateway{checked = case Is of none -> asked; _ -> Is end});
 check(G) -> G.
 
-%% Handles the answer to a check. The gateway may only have been slow to answer the other requests. Or the number of an
-%% earlier run is too low, but not this run's.
+%% Handles the answer to a check. The gateway may only be slow to answer other requests, so this waits for a while. If
+%% requests of earlier runs are open, only their numbers may be too low, so nothing is reported yet.
 checked(Now, G = #gateway{checked = asked}) -> G#gateway{checked = Now};
 checked(Now, G = #gateway{checked = Since, config = #{retry := Retry, tries := Tries}, sender = Own})
   when Now - Since >= Retry * Tries ->
@@ -327,7 +328,7 @@ drain(false, G = #gateway{state = State, config = #{name := Name}}) ->
     Back = kept(acts([Log, {timer, leave, infinity}], G#gateway{draining = false})),
     case State of drained -> enter(probing, abandoned(Back)); _ -> Back end.
 
-%% Asks the next room to leave. If the gateway has no terminations of ours any more, it is drained.
+%% Asks the next room to leave. Once no room uses the gateway, and no termination is to be subtracted, it is drained.
 leave(Now, G = #gateway{state = serving, seats = Seats, told = Told, contexts = Contexts, unknown = Unknown}) ->
     Rooms = lobby_seats:rooms(Seats),
     case {[Room || Room <- Rooms, Room > Told] ++ Rooms, Contexts, Unknown} of
@@ -456,7 +457,8 @@ answered({unknown, Sent}, _, Reply, Now, G = #gateway{unknown = Unknown}) ->
 answered(_, _, _, _, G) ->
     G.
 
-%% Returns whether a subtraction has succeeded. Errors 411, 430, 431 and 435 mean that the termination no longer exists.
+%% Returns whether a subtraction has succeeded. Errors 411, 430, 431 and 435 mean that the context doesn't exist, or
+%% that the termination isn't in it.
 is_ended({ok, Reply = #{results := Results}}) ->
     Codes = [Code || {_, _, {error, Code}} <- Results] ++ [Code || #{error := Code} <- [Reply]],
     lists:all(fun(Code) -> lists:member(Code, [411, 430, 431, 435]) end, Codes);

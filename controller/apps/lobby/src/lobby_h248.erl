@@ -47,7 +47,7 @@
 
 -define(NONE, asn1_NOVALUE).
 
-%% @doc Returns a message with one request, which has the guard and one action.
+%% @doc Returns a message with one request, which has the guard, if any, and one action.
 -spec request(sender(), transaction(), action()) -> binary().
 request(Sender, Transaction, Action) ->
     Guards = [#{context => Context, commands => [{audit, T, []}]} || #{guard := {Context, T}} <- [Action]],

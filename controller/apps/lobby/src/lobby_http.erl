@@ -1,5 +1,5 @@
-%%% @doc The HTTP interface and its page, on OTP's httpd. Requests carry a token (RFC 6750). A viewer's token can only
-%%% read, except for the audit log.
+%%% @doc The HTTP interface and its page, on OTP's httpd. Requests carry a token or a link (RFC 6750), except for those
+%%% that fetch the pages' files. A viewer's token can make no changes, and can't read the audit log.
 %%%
 %%% httpd reads chunked bodies of any size, and waits for a body forever. So this module also customizes httpd: it
 %%% rejects chunked bodies, and starts a timer for each body.
@@ -15,8 +15,8 @@
 -type token() :: {Token :: binary(), operator | viewer} | {Token :: binary(), operator | viewer, Name :: binary()}.
 -type answer() :: {Status :: pos_integer(), Headers :: [{atom() | string(), string()}], lobby_json:json() | iodata()}
                 | {events, lobby_events:watcher()}.
-%% A handler's arguments are the name in the path, if any, and the object in the body or, for GET, the request's URI. It
-%% may also throw a reason.
+%% A handler's arguments are the name in the path, if any, and the object in the body or, for GET, the request's URI. A
+%% handler may also throw a reason.
 -type handler() :: fun((binary(), #{binary() => term()} | string()) -> result()).
 -type result() :: ok | {ok, lobby_json:json()} | {text | csv, iodata()} | {ok, Id :: binary(), Sdp :: binary()}
                 | {error, Reason :: term()} | answer().
@@ -60,7 +60,7 @@ request_header(Header = {Name, _}) ->
         _ -> {true, Header}
     end.
 
-%% Stops the body's timer, because the body has arrived in time.
+%% Stops the body's timer, if it is running.
 received() ->
     _ = [erlang:cancel_timer(Timer) || Timer <- [erase(?MODULE)], Timer =/= undefined],
     receive timeout -> ok after 0 -> ok end.
@@ -238,7 +238,8 @@ bearer(Headers) ->
 
 hash(Token) -> crypto:hash(sha256, Token).
 
-%% Matches a path against a route. Returns a list with the name at the braces, which is empty if the path doesn't match.
+%% Matches a path against a route. Returns a list with the name at the braces, or an empty list if the path doesn't
+%% match.
 name(Route, Path) ->
     names(binary:split(Route, <<"/">>, [global, trim_all]), Path, <<>>).
 

@@ -8,8 +8,9 @@
 -export_type([kind/0]).
 
 %% A room or call is set aside after this number of failures within this period in milliseconds. It restarts at once
-%% after the first failure, and after a pause after the second. If it fails because one of our supervisors restarts,
-%% this process ends first, and doesn't count the failure.
+%% after the first failure, and half a second after the second one. If another process killed it, that doesn't count as
+%% a failure. If it fails because one of our supervisors restarts, this process ends first, and doesn't count the
+%% failure.
 -define(FAILURES, 3).
 -define(PERIOD, 60000).
 -define(PAUSE, 500).
@@ -29,8 +30,8 @@ name(call) -> lobby_call_keeper.
 running({error, {already_started, Pid}}) -> {ok, Pid};
 running(Started) -> Started.
 
-%% @doc Registers a process that was just started, so that the keeper monitors it. If the process failed at its start,
-%% the keeper counts the failure and tries again, and this call exits.
+%% @doc Registers a process that was just started, so that the keeper monitors it. If the process of a stored room or
+%% call failed at its start, the keeper counts the failure and tries again, and this call exits.
 -spec started(kind(), Name :: term(), supervisor:startchild_ret()) -> {ok, pid()}.
 started(Kind, Name, {ok, Pid}) ->
     ok = gen_server:cast(name(Kind), {started, Name, Pid}),

@@ -2,15 +2,15 @@
 %%% which keepalived (VRRP) gives to one host at a time, or a file, for another cluster manager. `lobby_lease_core'
 %%% makes the decisions; this process checks the lease, listens to the other node, and acts.
 %%%
-%%% A serving node exits if it loses the lease, or if the other node began to serve later. It also exits if its own
-%%% timer shows a gap in which it may have lost the lease, so that it sends nothing after such a gap. A standby exits if
-%%% it may miss changes of the other node. After its restart, it copies the other node's data. So no two nodes change
-%%% the same conferences, and no node serves without changes that were answered.
+%%% A serving node exits if it loses the lease, or if the other node began to serve later. It also exits if its own timer
+%%% shows a gap in which it may have lost the lease, so that it sends nothing after such a gap. A standby exits if it
+%%% may miss changes of the other node. After its restart, it copies the other node's data. So no two nodes change the
+%%% same conferences, and no node serves without changes that were answered, except in the cases that README.md lists.
 %%%
 %%% Each node reports its priority to keepalived, through a program that also notices if the node hangs or exits. A
 %%% serving node that reaches a gateway has a higher priority than a standby. If both nodes serve because they were cut
-%%% off from each other, the node that began later has the higher priority. A serving node that hasn't reached a gateway
-%%% for a while has a lower priority than a standby.
+%%% off from each other, the node that began later has the higher priority (except once in 100 terms). A serving node
+%%% that hasn't reached a gateway for a while has a lower priority than a standby.
 -module(lobby_lease).
 -behaviour(gen_server).
 
@@ -187,7 +187,7 @@ serve(Term, Peer, Serving) ->
     ok = lobby_store:follow(none),
     started(supervisor:start_child(lobby_sup, Serving)).
 
-%% Waits until mnesia has noticed that a node was dropped, which takes a moment.
+%% Waits until mnesia has noticed that a node was dropped, but at most for this many milliseconds.
 noticed(Peer, Left) ->
     case is_copied(Peer) andalso not lists:member(Peer, nodes()) of
         true when Left > 0 -> timer:sleep(1), noticed(Peer, Left - 1);

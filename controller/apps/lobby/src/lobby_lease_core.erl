@@ -22,7 +22,7 @@
 %% Milliseconds after which a serving node that reaches no gateway lowers its priority.
 -define(UNREACHED, 10000).
 %% The values that are reported to keepalived, which adds them to a priority of 100. With -254, a node doesn't get the
-%% lease.
+%% lease. A serving node adds its term, modulo ?TERMS.
 -define(WAITING, -254).
 -define(STANDBY, 0).
 -define(SERVING, 20).
@@ -96,7 +96,7 @@ event({connected, Now}, State) ->
 event({lost, Now}, State) ->
     Next = lost(State#state{connected = false}),
     {Next, ask(Now, Next)};
-%% The other node has been heard since then, so it has restarted.
+%% The other node has been heard since the check was requested, so it has restarted.
 event({gone, Asked}, State = #state{peer = #peer{at = At}}) when At >= Asked ->
     {State, []};
 event({gone, _}, State) ->
@@ -119,8 +119,8 @@ opened(#{open := true}, State = #state{role = waiting, connected = Connected, pe
 opened(_, State) ->
     {State, []}.
 
-%% A node that has served exits if it doesn't have the lease, even if this process doesn't serve yet. A standby exits if
-%% it has no grant, because it may miss changes of the other node.
+%% A node that has served exits if it doesn't have the lease, even if this process doesn't serve yet. A standby that has
+%% heard a serving node exits if it then has no grant, because it may miss changes of the other node.
 looked(#{lease := false}, _, #state{permit = serves}) ->
     throw({stop, "another node has the lease"});
 looked(_, Now, #state{role = standby, permit = #told{since = Since, until = Until}})
@@ -175,8 +175,8 @@ value(_, #state{role = standby}) -> ?STANDBY;
 value(Now, #state{reached = Since}) when Now - Since > ?UNREACHED -> ?USELESS;
 value(_, #state{role = {serving, Term}}) -> ?SERVING + Term rem ?TERMS.
 
-%% Checks whether the other node has ended, if it is away but may still take over. Until then, changes can't be
-%% answered.
+%% Checks whether the other node has ended, if it is away but may still take over. Changes can't be answered until it
+%% has ended, or may no longer take over.
 ask(Now, State = #state{role = {serving, _}, peer = Peer, connected = Connected}) ->
     Away = case Peer of #peer{lost = Lost} -> Lost; _ -> not Connected end,
     Limit = limit(State),

@@ -23,12 +23,12 @@
                  direction := lobby_sdp:direction(), identity := binary(), name => binary(), call => term()}.
 -type change() :: #{role => lobby_rules:role(), isolated => boolean(), muted => boolean(), waiting => boolean(),
                     acknowledged => boolean(), media => lobby_h248:media(), direction => lobby_sdp:direction()}.
-%% Which request an answer is for. `asked': a request over HTTP, which is answered only when no phone still sends to a
-%% lost gateway. `media': the caller's own offer, which can't wait for other phones. `joins': a new caller's request,
-%% which doesn't get `not_yet' while the room waits.
+%% Which request an answer is for. `asked': a request over HTTP, which succeeds only when no phone still sends to a lost
+%% gateway. `media': the caller's own offer, which can't wait for other phones. `joins': a new caller's request, which
+%% doesn't get `not_yet' while the room waits.
 -type tag() :: {asked, From :: term()} | {media, term()} | {joins, term()}.
 %% A room's report about a version. `later': no gateway has accepted the version yet. `refused': the gateway refused the
-%% person's media, and still uses these media, if any.
+%% person's media with this code; the last element has the media that it still uses, if any.
 -type report() :: {holds, version(), Local :: lobby_h248:media(), Everywhere :: boolean()} | {later, version()}
                 | {refused, version(), Code :: pos_integer(), lobby_h248:media() | none}.
 -type event() :: {join, tag()} | {admitted, lobby_room:name(), ok | {error, term()}} | {change, tag(), change()}
@@ -63,8 +63,8 @@ row(#person{row = Row}) -> Row.
 -spec is_joining(person()) -> boolean().
 is_joining(#person{phase = Phase}) -> Phase =:= joining.
 
-%% @doc Returns whether no request waits, and the room has reported the latest version. Otherwise, handle `again' from
-%% time to time, because a room may have failed before it read a message.
+%% @doc Returns whether no request waits, no move is under way, and the room has reported the latest version. Otherwise,
+%% handle `again' from time to time, because a room may have failed before it read a message.
 -spec is_settled(person()) -> boolean().
 is_settled(#person{row = #{version := Version, from := none}, phase = in, held = Version, pending = []}) -> true;
 is_settled(#person{}) -> false.
@@ -132,7 +132,8 @@ next_move(P = #person{phase = in, moves = [{Tag, To} | Moves], row = #{room := R
 next_move(P, Actions) ->
     {P, Actions}.
 
-%% Handles a room's report. Once the new room has the person's version, the move has ended, and the next one can begin.
+%% Handles a room's report. Once the new room reports the version of the move or a later one, the move has ended, and
+%% the next one can begin.
 reported({holds, Version, Local, Everywhere}, P0 = #person{row = Row = #{moved := Moved, from := From}, held = Held}) ->
     {P, Answers} = answered(fun({V, Tag}) -> V =< Version andalso may_answer(Tag, Everywhere) end, {ok, Local},
                             P0#person{held = max(Version, Held)}),
@@ -145,7 +146,7 @@ reported({holds, Version, Local, Everywhere}, P0 = #person{row = Row = #{moved :
     end;
 reported({later, Version}, P) ->
     answered(fun({V, Tag}) -> V =< Version andalso element(1, Tag) =/= joins end, {error, not_yet}, P);
-%% The row goes back to the media that the gateway still uses.
+%% The row goes back to the media that the gateway still uses, if any.
 reported({refused, Version, Code, Media}, P0) ->
     {P = #person{row = Row}, Answers} = answered(fun({V, _}) -> V =< Version end, {error, {refused, Code}}, P0),
     case Media of

@@ -17,8 +17,8 @@
 start_link() ->
     gen_server:start_link({local, ?MODULE}, ?MODULE, [], []).
 
-%% @doc Reserves seats for all members of a room on the preferred gateway or, if that fails, on the one with the most
-%% free seats. Never chooses the gateway `Except'.
+%% @doc Reserves seats for all members of a room on the preferred gateway or, if that fails, on another one. Of the
+%% others, those with the most free seats come first. Never chooses the gateway `Except'.
 -spec place(lobby_room:name(), [lobby_rules:id()], Prefer :: handle() | none, Except :: handle() | none) ->
           handle() | none.
 place(Room, Ids, Prefer, Except) ->

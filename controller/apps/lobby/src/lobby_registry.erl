@@ -62,7 +62,7 @@ send(Name, Message) ->
 processes(Kind) ->
     lists:append(ets:match(?MODULE, {{Kind, '_'}, '$1'})).
 
-%% @doc Returns the same processes, each with the second part of its name.
+%% @doc Returns the processes of `processes/1', each with the second part of its name.
 -spec names(atom()) -> [{term(), pid()}].
 names(Kind) ->
     [{Name, Pid} || [Name, Pid] <- ets:match(?MODULE, {{Kind, '$1'}, '$2'})].

@@ -14,7 +14,8 @@
 
 -define(MAX_ROOMS, 10000).
 -define(TRIES, 3).
-%% Milliseconds until a room retries a request that its gateway rejected, and one that wasn't answered.
+%% Milliseconds until a room tries again, for example after its gateway rejected a request, and until it asks again for
+%% a missing answer.
 -define(SOON, 250).
 -define(LATER, 1000).
 %% Milliseconds after which an idle room hibernates, and for which a lost gateway may still play packets that it has
@@ -23,8 +24,8 @@
 -define(PLAYED, 100).
 
 -type name() :: binary().
-%% `agree' is answered once the gateway has the desired state, `audit' after an audit of the gateway, and `describe'
-%% immediately.
+%% `agree' is answered once the gateway has the desired state, or with an error if that takes longer. `audit' is
+%% answered after an audit of the gateway; `describe' and `agrees' are answered immediately.
 -type request() :: {rules, add | set, [lobby_rules:rule()]} | {create, [lobby_rules:rule()], lobby_room_core:settings()}
                  | {settings, lobby_room_core:settings()} | agree | audit | describe | agrees.
 -type error() :: lobby_room_core:error() | too_many_rooms | no_such_room.
@@ -51,7 +52,8 @@ create(Name, Rules, Settings) ->
 call(Name, Request) ->
     call(Name, old, Request, ?TRIES).
 
-%% Sends a request to a room. If the room ends meanwhile, because it is empty or fails, it is started again.
+%% Sends a request to a room. If the room ends meanwhile, because it is empty or fails, this tries again, up to three
+%% times in all.
 call(Name, Kind, Request, Tries) ->
     try
         case started(Name, Kind) of
@@ -63,7 +65,7 @@ call(Name, Kind, Request, Tries) ->
             call(Name, Kind, Request, Tries - 1)
     end.
 
-%% A gateway answers or is lost within a second, but a large conference takes many requests.
+%% By default, a gateway answers or is lost within a second, but a large conference takes many requests.
 asked(Name, Request) ->
     gen_server:call(via(Name), Request, 30000).
 
@@ -143,7 +145,7 @@ init(Name) ->
     _ = erlang:send_after(audit_interval(), self(), watch),
     {ok, #state{name = Name, core = Core}, {continue, start}}.
 
-%% Starts from the members' rows, which are the desired state.
+%% Starts from the rows of the room and its members, which are the desired state.
 -spec handle_continue(start, #state{}) -> {noreply, #state{}} | {stop, normal, #state{}}.
 handle_continue(start, State = #state{name = Name}) ->
     Rows = [Row || {_, Row} <- lobby_store:group(lobby_members, Name)],
@@ -286,7 +288,7 @@ tell_member(Id, Event, Name) ->
         Pid -> Pid ! {?MODULE, Name, Event}, ok
     end.
 
-%% Sets the retry timer, unless an earlier one is running.
+%% Sets the retry timer, unless it expires earlier already.
 retried(In, State = #state{retry = Before}) ->
     Time = now_ms() + In,
     case Before of

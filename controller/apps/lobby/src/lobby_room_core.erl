@@ -21,7 +21,8 @@
 -type handle() :: lobby_gateway:handle().
 -type reference_() :: {Run :: term(), pos_integer()}.
 -type error() :: no_room | no_member | room_full | room_locked | too_many_rules | not_yet.
-%% Whether the room stays when its last member leaves, keeps new callers out, and makes newcomers wait at its door.
+%% Whether the room stays when its last member leaves, whether it keeps new callers out, and whether it makes newcomers
+%% wait at its door.
 -type settings() :: #{kept => boolean(), locked => boolean(), door => boolean()}.
 %% The members whose phones may still send to a lost gateway, and the addresses there.
 -type stale() :: #{id() => lobby_h248:media() | unknown}.
@@ -381,7 +382,8 @@ answer_asked(Room = #room{asked = Asked, stale = Stale}) when map_size(Stale) =:
 answer_asked(Room) ->
     Room.
 
-%% Answers requests for an audit. The result is `unknown' without members, or if the topology doesn't fit into a reply.
+%% Answers requests for an audit. The result is `unknown' if the topology couldn't be audited, for example because it
+%% may not fit into a reply.
 audited(Room = #room{audits = Audits, compared = Result}) ->
     acts([{reply, From, Result} || From <- Audits], Room#room{audits = []}).
 
@@ -470,7 +472,7 @@ agrees(#room{busy = none, stale = Stale, gateway = Gateway, conference = C}) whe
         andalso element(1, lobby_conference:next(C)) =:= settled;
 agrees(_) -> false.
 
-%% @doc Returns each member's gateway, context and termination.
+%% @doc Returns the gateway, context and termination of each member who has a termination.
 -spec seats(room()) -> #{id() => {Gateway :: binary(), Context :: term(), lobby_h248:termination()}}.
 seats(#room{gateway = none}) -> #{};
 seats(#room{gateway = Gateway, conference = C}) ->

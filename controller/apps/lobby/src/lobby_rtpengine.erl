@@ -1,12 +1,12 @@
-%%% @doc Sends requests to rtpengine, which relays between browsers and gateways, and watches whether it answers. A
-%%% message of its ng protocol is a cookie and JSON over UDP. rtpengine repeats its answer to a cookie that it has
-%%% already answered.
+%%% @doc Sends requests to rtpengine, and checks regularly whether it answers. rtpengine relays media between browsers
+%%% and gateways. A message of its ng protocol is a cookie and JSON over UDP. rtpengine repeats its answer to a cookie
+%%% that it has already answered.
 -module(lobby_rtpengine).
 
 -export([start_link/1, ask/2, state/0]).
 
-%% Milliseconds until each retransmission of a request, until no request that was sent before is under way, and between
-%% checks of rtpengine.
+%% In milliseconds: the waits for an answer after each transmission of a request, the time after which no earlier
+%% request is under way any more, and the interval between checks of rtpengine.
 -define(TRIES, [200, 400, 800]).
 -define(LATER, 2000).
 -define(LOOK, 1000).
@@ -63,14 +63,14 @@ result(Text) ->
     catch error:_ -> {error, {relay, Text}}
     end.
 
-%% Checks rtpengine in a loop. `Before' is rtpengine's uptime in seconds at the last check, which is lower after a
-%% restart.
+%% Checks rtpengine in a loop. `Before' is rtpengine's uptime in seconds at the last check, or `lost'. A lower uptime
+%% shows that rtpengine has been restarted.
 look(Before) ->
     Ran = seen(answer(#{command => statistics}), Before),
     timer:sleep(?LOOK),
     look(Ran).
 
-%% Notes the result of a check. When rtpengine is lost, so are all relayed calls.
+%% Notes the result of a check. When rtpengine is lost or restarted, all relayed calls are lost.
 seen({ok, #{<<"statistics">> := #{<<"totalstatistics">> := #{<<"uptime">> := Uptime}}}}, Before) ->
     Ran = binary_to_integer(Uptime),
     _ = [begin logger:notice("rtpengine is in service"), persistent_term:put(?MODULE, serving) end || Before =:= lost],

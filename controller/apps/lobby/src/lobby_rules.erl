@@ -1,7 +1,7 @@
 %%% @doc Rules about members and roles, which decide who hears whom in a room.
 %%%
-%%% A list of rules works like a firewall's: the last rule that matches a talker and a listener decides. If no rule
-%%% matches, the listener hears the talker. Rules name members, never terminations, so they hold on any gateway.
+%%% In a list of rules, the last rule that matches a talker and a listener decides. If no rule matches, the listener
+%%% hears the talker. Rules name members, never terminations, so they hold on any gateway.
 -module(lobby_rules).
 
 -export([hears/3, flows/2, flows/3, add/2, forget/2, named/1, preset/1, oneway/2]).

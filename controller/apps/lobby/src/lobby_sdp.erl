@@ -107,7 +107,7 @@ direction_of(Lines) ->
     hd([Direction || <<"a=", Value/binary>> <- Lines, Direction <- [sendrecv, sendonly, recvonly, inactive],
                      Value =:= atom_to_binary(Direction)] ++ [sendrecv]).
 
-%% @doc Returns the address and format in which the caller receives media.
+%% @doc Returns the address at which the caller receives media, and their format.
 -spec media(session()) -> lobby_h248:media().
 media(#session{media = Media}) -> Media.
 

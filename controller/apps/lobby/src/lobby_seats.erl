@@ -32,8 +32,8 @@ new(MaxTerminations, MaxContexts) ->
 kept(Entries, S) ->
     S#seats{entries = maps:from_list(Entries)}.
 
-%% @doc Reserves seats for all members of a room, including future ones. If there are too few seats, changes nothing and
-%% returns `false'.
+%% @doc Reserves seats for all members of a room, including future ones. If there are too few seats or contexts, changes
+%% nothing and returns `false'.
 -spec reserve(room(), [id()], seats()) -> {boolean(), seats()}.
 reserve(Room, Ids, S) ->
     With = keep(Room, Ids, S),
@@ -99,9 +99,9 @@ holdings(Room, #seats{entries = Entries}) ->
     [(maps:with([context, member, local, given], Entry))#{termination => T}
      || {T, Entry = #{room := Of}} <- lists:sort(maps:to_list(Entries)), Of =:= Room].
 
-%% @doc Returns which terminations belong to a room, and which ones in its context belong to other rooms. If an entry
-%% names another context, another node has moved the termination, and this node didn't learn of it. So no other room
-%% knows that the termination is here.
+%% @doc Returns `other' for each termination that another room has in this room's context, and `own' for all others. If
+%% this context has a termination whose entry names another context, another node has moved the termination, and this
+%% node didn't learn of it. So no other room knows that the termination is here.
 -spec owners(room(), lobby_h248:context(), seats()) -> lobby_conference:owner().
 owners(Room, Context, #seats{entries = Entries}) ->
     maps:map(fun(_, #{room := Of, context := In}) when Of =/= Room, In =:= Context -> other;

@@ -47,7 +47,7 @@ timeout(none) -> {infinity, none};
 timeout({Seconds, ours}) -> {500 * Seconds, refresh};
 timeout({Seconds, theirs}) -> {1000 * (Seconds - min(32, Seconds div 3)), expired}.
 
-%% @doc Returns the milliseconds for which the caller waits for a response to this INVITE.
+%% @doc Returns the milliseconds for which the caller waits for a response to this INVITE: at most three minutes.
 -spec invitation(lobby_sip_message:message()) -> non_neg_integer().
 invitation(Invite) ->
     1000 * min(?INVITATION, lobby_sip_message:header(expires, Invite, ?INVITATION)).

@@ -35,7 +35,7 @@ received(Message, Source) ->
 invite(Request, Source) ->
     gen_server:call(?MODULE, {invite, Request, Source}, infinity).
 
-%% @doc Sends a message. A message can be lost, for example while the port isn't open, so its sender retransmits it.
+%% @doc Sends a message. A message can be lost, for example while the port isn't open.
 -spec send(lobby_sip_message:target(), lobby_sip_message:message()) -> ok.
 send(Target, Message) ->
     ok = lobby_lease:hold(),
@@ -131,7 +131,7 @@ handle_info({'DOWN', _, process, Pid, _}, State = #state{admission = Admission})
 handle_info(_, State) ->
     {noreply, State}.
 
-%% Returns whether to read a message from this source. All other messages are dropped unread.
+%% Returns whether to read a message from this source. Otherwise, the message is dropped unread.
 lets_in(Source, State = #state{admission = Before}) ->
     Now = erlang:monotonic_time(millisecond),
     {IsIn, Admission} = lobby_admission:message(lobby_sip_message:address(Source), Now, Before),

@@ -1,8 +1,8 @@
 %%% @doc Decodes SIP messages (RFC 3261, section 25) in linear time, into esip's records.
 %%%
 %%% esip 1.0.49 reads a list of addresses in quadratic time (58 KB of Contact take half a minute), and can't read IPv6
-%%% addresses in URIs. So the controller uses esip only to write messages. This module skips headers that the controller
-%%% doesn't use.
+%%% addresses in URIs. So the controller reads messages with this module, and writes them with esip. This module skips
+%%% headers that the controller doesn't use.
 -module(lobby_sip_decoder).
 
 -include_lib("p1_sip/include/esip.hrl").
@@ -13,7 +13,8 @@
 %% than a millisecond.
 -define(MAX_HEAD, 8192).
 -define(MAX_PARTS, 160).
-%% The headers that are read, by name. The short names come from section 7.3.3 and RFC 4028.
+%% The headers that are read, by name, in addition to those in `roles'. The short names come from section 7.3.3 and RFC
+%% 4028.
 -define(KEYS, #{<<"via">> => via, <<"v">> => via, <<"from">> => from, <<"f">> => from, <<"to">> => to, <<"t">> => to,
                 <<"call-id">> => 'call-id', <<"i">> => 'call-id', <<"cseq">> => cseq, <<"contact">> => contact,
                 <<"m">> => contact, <<"record-route">> => 'record-route', <<"max-forwards">> => 'max-forwards',
@@ -26,7 +27,8 @@
 -define(HOST, "(\\[[0-9A-Fa-f:.]+\\]|[A-Za-z0-9_.-]+)").
 
 %% @doc Decodes a message. If a request can be answered, but not served, returns the status of the answer. A malformed
-%% header stays as text. If a header occurs twice, the first one counts.
+%% header stays as text. If a header that isn't a list occurs twice, only the first one is kept, and the message counts
+%% as malformed.
 -spec decode(binary()) -> {ok | 400 | 505, #sip{}} | {error, not_sip}.
 decode(Datagram) ->
     case binary:split(Datagram, <<"\r\n\r\n">>) of

@@ -105,7 +105,7 @@ received(Message = #sip{type = Type, hdrs = Headers}, {Address, Port}) ->
 encode(Message) ->
     iolist_to_binary(esip_codec:encode(Message)).
 
-%% @doc Returns a response to a request. If the request's To has no tag, all responses except 100 get this one.
+%% @doc Returns a response to a request. If the request's To has no tag, all responses except 100 get this tag.
 %% Provisional and 2xx responses have the Record-Route (section 12.1.1).
 -spec response(100..699, message(), Tag :: binary(), {Headers :: [{term(), term()}], Body :: binary()}) -> message().
 response(Status, Request = #sip{hdrs = Headers, method = Method}, Tag, {More, Body}) ->
@@ -164,7 +164,7 @@ header(Key, Message) ->
 header(Key, #sip{hdrs = Headers}, Default) ->
     proplists:get_value(Key, Headers, Default).
 
-%% @doc Returns the values of all headers with this name that contain lists.
+%% @doc Returns the elements of all headers with this name whose values are lists.
 -spec headers(atom(), message()) -> [term()].
 headers(Key, #sip{hdrs = Headers}) ->
     lists:append([Value || {Name, Value} <- Headers, Name =:= Key, is_list(Value)]).

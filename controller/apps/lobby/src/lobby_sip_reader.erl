@@ -1,6 +1,7 @@
-%%% @doc Reads SIP messages, and passes those of a call to its process. All other requests are answered here without
-%%% keeping state (RFC 3261, section 8.2.7), so that a flood of them takes no memory. Several processes read, so that a
-%%% sender whose messages take a long time to read doesn't block the others. The messages of one sender stay in order.
+%%% @doc Reads SIP messages, and passes those of a call to its process. A request that neither belongs to a call nor
+%%% begins one is answered here without keeping state (RFC 3261, section 8.2.7), unless it is an ACK. So a flood of such
+%%% requests takes no memory. Several processes read, so that a sender whose messages take a long time to read doesn't
+%%% block all others. The messages of one sender stay in order.
 -module(lobby_sip_reader).
 
 -include_lib("p1_sip/include/esip.hrl").
@@ -80,7 +81,7 @@ in_call(Key, Message = #sip{type = Type}, Source) ->
         {error, response} -> ok
     end.
 
-%% Passes a message to a call's process. A message that is dropped is retransmitted by its sender.
+%% Passes a message to a call's process. Over UDP, the sender of a message that is dropped retransmits it.
 forward(Pid, Message, Source) ->
     _ = [Pid ! {sip, Message, Source}
          || {_, Waiting} <- [process_info(Pid, message_queue_len)], Waiting < ?MAX_WAITING],

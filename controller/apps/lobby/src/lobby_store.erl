@@ -61,16 +61,16 @@ get(Table, Key, Default) ->
 has(Table, Key) ->
     ets:member(Table, Key).
 
-%% @doc Deletes a row, if it exists. In a pair, deletes it on both nodes.
+%% @doc Deletes a row, if it exists. In a pair, deletes it on both nodes, unless the other node is away.
 -spec delete(table(), Key :: term()) -> ok.
 delete(Table, Key) ->
     write(fun() -> mnesia:delete({Table, Key}) end).
 
-%% Makes a change, and returns once both nodes of a pair have it.
+%% Makes a change. In a pair, returns once both nodes have it, unless the other node is away.
 write(Change) ->
     mnesia:sync_dirty(Change).
 
-%% @doc Returns all rows of a table.
+%% @doc Returns all rows of a table without groups.
 -spec all(table()) -> [{Key :: term(), Value :: term()}].
 all(Table) ->
     [{Key, unpack(Table, Stored)} || {_, Key, Stored} <- mnesia:dirty_match_object({Table, '_', '_'})].
@@ -116,7 +116,8 @@ is_open() ->
 follow(none) -> mnesia:set_master_nodes([]);
 follow(Node) -> mnesia:set_master_nodes([Node]).
 
-%% @doc Lets a node with an empty folder copy the tables, even if it had copies before. That node calls this function.
+%% @doc Makes the tables forget a node's copies, so that this node can copy the tables to an empty folder. The node
+%% itself calls this function.
 -spec admit(node()) -> ok | {error, not_open}.
 admit(Node) ->
     Open = is_open(),
@@ -186,7 +187,7 @@ met(Peer) ->
         false -> ok
     end.
 
-%% Loads the tables from the folder or, if mnesia considers these newer, from the other node.
+%% Loads the tables from the folder or, if mnesia considers the other node's tables newer, from that node.
 loaded() ->
     %% An earlier release had fewer tables.
     case ?TABLES -- mnesia:system_info(tables) of

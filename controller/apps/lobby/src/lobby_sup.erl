@@ -1,11 +1,11 @@
-%%% @doc The supervisors. At the top, each child depends on the children before it. If a child fails, the children after
-%%% it are restarted, and continue with the stored state.
+%%% @doc The supervisors. At the top, each child depends on the children before it. If a child fails, that child and
+%%% those after it are restarted, and continue with the stored state.
 -module(lobby_sup).
 -behaviour(supervisor).
 
 -export([start_link/1, start_link/2, init/1]).
 
-%% The registered names of the processes below lobby_serving. `lobby' is pg's scope.
+%% The registered names of most processes below lobby_serving. `lobby' is pg's scope.
 -define(SERVING, [lobby, lobby_aside_sup, lobby_registry, lobby_gateway_sup, lobby_room_sup, lobby_room_keeper,
                   lobby_call_sup, lobby_web_sup, lobby_call_keeper, lobby_sip, lobby_tcp_sup, lobby_connections]).
 
@@ -34,7 +34,6 @@ await_end(Name) ->
     Monitor = monitor(process, Name),
     receive {'DOWN', Monitor, process, _, _} -> ok end.
 
-%% A restarted process continues with its predecessor's state.
 -spec init({top, lobby_config:config()} | children()) -> {ok, {supervisor:sup_flags(), [supervisor:child_spec()]}}.
 %% In a pair, the node that has the lease starts lobby_serving.
 init({top, Config = #{pair := Pair}}) ->
@@ -69,7 +68,7 @@ init({tcp, Config = #{sip := Own, tls := Tls}}) ->
     in_order([sup(lobby_connections, {many, lobby_tcp})
               | [(child(lobby_listener, [Port, Secured, Config]))#{id := Id, shutdown => brutal_kill}
                  || {Id, Port, Secured} <- Ports]]);
-%% `lobby_keeper' restarts children that fail.
+%% `lobby_keeper' restarts rooms and calls that fail. Nothing restarts a connection.
 init({many, Module}) ->
     {ok, {#{strategy => simple_one_for_one}, [(child(Module, []))#{restart => temporary}]}}.
 

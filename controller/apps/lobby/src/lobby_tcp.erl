@@ -28,7 +28,7 @@ start_link(Socket, Peer) ->
 send(Connection, Message) ->
     gen_server:cast(Connection, {send, Message}).
 
-%% @doc Notes that a call uses a connection, if any. Such a connection has a longer idle timeout.
+%% @doc Notes which connection a call uses, if any. Such a connection has a longer idle timeout.
 -spec in_call(pid() | none, Call :: pid()) -> ok.
 in_call(none, _) -> ok;
 in_call(Connection, Call) -> gen_server:cast(Connection, {call, Call}).

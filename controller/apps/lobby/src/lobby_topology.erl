@@ -25,7 +25,7 @@ everyone(Ids) ->
 changes(Ids, Before, After) ->
     changes(Ids, Before, After, ?MAX_TRIPLES).
 
-%% @doc Returns the same triples, with at most this many in a batch.
+%% @doc Like `changes/3', with at most this many triples in a batch.
 -spec changes([Id], Before :: sets:set({Id, Id}), After :: sets:set({Id, Id}), pos_integer()) -> [[triple(Id)]].
 changes(Ids, Before, After, Max) ->
     Pairs = [{Was, Is} || {A, B} <- pairs(Ids), Was <- [state(A, B, Before)], Is <- [state(A, B, After)], Was =/= Is],

@@ -54,16 +54,16 @@
                        out = [] :: [effect(term())]}).
 -opaque transactions() :: #transactions{}.
 
-%% @doc Returns the transactions of a run. Their numbers ascend from the first one, which must be above 1, the number of
-%% checks. The first number should be higher than the numbers of earlier runs, so that a late reply to an earlier run
-%% doesn't match a request of this one.
+%% @doc Returns the transactions of a run. Their numbers ascend from the first one, which must be above 1, the
+%% transaction number of checks. The first number should be higher than the numbers of earlier runs, so that a late
+%% reply to an earlier run doesn't match a request of this one.
 -spec new(lobby_h248:sender(), First :: lobby_h248:transaction(), options()) -> transactions().
 new(Sender, First, Options) ->
     #transactions{sender = Sender, options = Options, next = First}.
 
-%% @doc Sends a request, now or as soon as the window allows it. Only `queued' requests can be refused, or are held
-%% back; all others are sent next. `forever' requests are retransmitted until they are answered, and so are `patiently'
-%% requests, at growing intervals.
+%% @doc Sends a request, now or as soon as the window allows it. Only `queued' requests can be refused or, during a
+%% pause, held back; all others are sent next. `forever' requests are retransmitted until they are answered, and so are
+%% `patiently' requests, at growing intervals.
 -spec submit({queued | urgent | forever | patiently, From}, lobby_h248:action(), milliseconds(), transactions()) ->
           {[effect(From)], transactions()}.
 submit({queued, From}, Action, Now, T = #transactions{held = Held, waiting = Waiting, options = #{tries := Tries}}) ->

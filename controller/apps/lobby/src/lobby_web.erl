@@ -1,10 +1,10 @@
-%%% @doc The process of a link: the desired state of its member, who is in a browser (`lobby_person'), and the member's
+%%% @doc The process of a link: the desired state of its member (`lobby_person'), who is in a browser, and the member's
 %%% calls in rtpengine.
 %%%
 %%% A link has one member. The browser sends an offer in a POST, and gets the answer (WHIP, RFC 9725). Another POST,
 %%% from any browser, replaces the previous one, and the member keeps role, mute and isolation. rtpengine has a call for
-%%% each POST. If the gateway receives the member at another address, only rtpengine is notified. This process never
-%%% waits for rtpengine, because it also handles changes.
+%%% each POST. If the address at which the gateway receives the member changes, only rtpengine is notified. This process
+%%% never waits for rtpengine, because it also handles changes.
 -module(lobby_web).
 -behaviour(gen_server).
 
@@ -13,7 +13,7 @@
 
 %% Milliseconds until a row is sent again to a room that hasn't reported it.
 -define(AGAIN, 1000).
-%% Milliseconds for admitting a browser, and between attempts.
+%% Milliseconds within which a browser must be admitted, and between checks whether the previous POST is still joining.
 -define(LET_IN, 8000).
 -define(SOON, 50).
 
@@ -60,7 +60,7 @@ find(Key) ->
     end.
 
 %% @doc Returns an offer without addresses. rtpengine learns the address from the browser's checks, and sends nothing to
-%% the addresses in an offer. Throws `{invalid, Text}' if the offer isn't encrypted.
+%% the addresses in an offer. Throws `{invalid, Text}' if the offer isn't encrypted or isn't UTF-8.
 -spec offer(binary()) -> binary().
 offer(Text) ->
     _ = [throw({invalid, <<"the offer isn't UTF-8">>}) || unicode:characters_to_binary(Text) =/= Text],
@@ -214,8 +214,8 @@ act(Action, Leg) ->
     _ = [self() ! {lobby_room, Room, {admitted, Error}} || {admitted, Room, Error} <- [lobby_member:act(Action)]],
     Leg.
 
-%% Answers a POST that failed. A member who was never relayed leaves the room. Otherwise, the browser sends another
-%% POST.
+%% Answers a POST that failed. A member who was never relayed leaves the room, unless another POST has replaced this
+%% one. A member who was relayed stays, and the browser sends another POST.
 refused(_, Leg = #leg{post = none}) -> Leg;
 refused(Error, Leg = #leg{post = {Id, From, _, _}, began = Began}) ->
     ok = relay(ended, Id, #{command => delete}),

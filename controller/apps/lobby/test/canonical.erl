@@ -17,8 +17,8 @@ exchanges([Group | Groups]) ->
 permutations([]) -> [[]];
 permutations(List) -> [[One | Rest] || One <- List, Rest <- permutations(List -- [One])].
 
-%% @doc Renumbers the numbers from Base on, in order. Numbers from Base to 2 Base become Base, Base + 1 and so on.
-%% Numbers from 2 Base to 3 Base become 2 Base, 2 Base + 1 and so on, and likewise for each multiple.
+%% @doc Renumbers the numbers from Base on, in order. Numbers from Base to 2 Base - 1 become Base, Base + 1 and so on.
+%% Numbers from 2 Base to 3 Base - 1 become 2 Base, 2 Base + 1 and so on, and likewise for each multiple.
 -spec ranked(term(), Base :: pos_integer()) -> term().
 ranked(Term, Base) ->
     renamed(Term, ranks(lists:usort(numbers(Term, Base, [])), Base)).

@@ -3,7 +3,7 @@
 
 -include_lib("eunit/include/eunit.hrl").
 
-%% In this state, Alice and Bob are each in one of two rooms.
+%% In these states, Alice and Bob are each in one of two rooms.
 names_are_exchanged_test() ->
     Least = fun(Term) -> canonical:least(Term, [[alice, bob], [<<"1">>, <<"2">>]]) end,
     Together = [#{alice => <<"1">>, bob => <<"1">>}, #{alice => <<"2">>, bob => <<"2">>}],
@@ -14,8 +14,8 @@ names_are_exchanged_test() ->
     %% The least term is one of the equivalent terms.
     ?assert(lists:member(Least(hd(Apart)), Apart)).
 
-%% All orders of three exchangeable names in a queue have the same canonical form. If the first and last names matter,
-%% there are two forms.
+%% All orders of three exchangeable names in a queue have the same canonical form. A term with two such names has two
+%% forms, because the names are equal or differ.
 all_orders_are_tried_test() ->
     Least = fun(Term) -> canonical:least(Term, [[a, b, c]]) end,
     Names = [a, b, c],

@@ -1,5 +1,5 @@
-%% Sends the message of each row in answers.md to the SIP port, and compares the response. The messages are modeled on
-%% those of RFC 4475 and RFC 5118, and have the same names.
+%% Sends each message that answers.md lists to the SIP port, and compares the response. The messages under the names of
+%% RFC 4475 and RFC 5118 are modeled on those of the RFC. Most of the other cases are those of the page's last table.
 -module(lobby_answers_SUITE).
 
 -include_lib("stdlib/include/assert.hrl").
@@ -62,7 +62,8 @@ options(Changes) -> options("sip:100@127.0.0.1", Changes).
 
 sdp() -> "v=0\r\no=- 1 1 IN IP4 127.0.0.1\r\ns=-\r\nc=IN IP4 127.0.0.1\r\nt=0 0\r\nm=audio 9 RTP/AVP 0\r\n".
 
-%% Returns the rows. Sections are those of RFC 3261, unless a row names another RFC.
+%% Returns the rows. Sections are those of RFC 3261, unless a row names another RFC, or `limits' for the controller's
+%% own.
 rows() ->
     Register = fun(Uri, Changes) -> message("REGISTER " ++ Uri ++ " SIP/2.0", Changes) end,
     [{"a valid INVITE", "13.3.1", 200, invite([])},
@@ -136,7 +137,7 @@ rows() ->
      {"baddn", "RFC 4475, 3.1.2.15", 400, options([{"From", "Bell, Alexander <sip:a.g.bell@127.0.0.1>;tag=43"}])},
      {"mismatch01", "RFC 4475, 3.1.2.17", 400, options([{"CSeq", "8 INVITE"}])},
      {"mismatch02", "RFC 4475, 3.1.2.18", 400, message("NEWMETHOD sip:100@127.0.0.1 SIP/2.0", [{"CSeq", "8 INVITE"}])},
-     %% These messages of sections 3.2 and 3.3 concern transactions, or can be judged only by an application.
+     %% These messages of sections 3.2 to 3.4 concern transactions or RFC 2543, or can be judged only by an application.
      {"badbranch", "RFC 4475, 3.2.1", 200, options([{"Via", "SIP/2.0/UDP 127.0.0.1:PORT;rport;branch=z9hG4bK"}])},
      {"insuf", "RFC 4475, 3.3.1", 400, invite([{"From", none}, {"To", none}, {"Call-ID", none}])},
      {"unkscm", "RFC 4475, 3.3.2", 416, options("nobodyknowsthisscheme:totallyopaquecontent", [])},
@@ -184,7 +185,8 @@ messages(Config) ->
     {ok, Page} = file:read_file(filename:join(lists:takewhile(fun(Part) -> Part =/= "apps" end, filename:split(proplists:get_value(source, ?MODULE:module_info(compile)))) ++ ["answers.md"])),
     ?assertEqual([], [Name || {Name, _, _, _} <- rows(), binary:match(Page, iolist_to_binary(["`", Name, "`"])) =:= nomatch]).
 
-%% No request waits for these responses: `unreason', `noreason', `bigcode', `scalarlg' and `bcast' of RFC 4475.
+%% No request waits for these responses: `unreason', `noreason', `bigcode' and `scalarlg' of RFC 4475, and one with a
+%% malformed CSeq.
 responses(Config) ->
     [?assertEqual({First, none}, {First, phone:status(answer(message(First, [{"CSeq", CSeq}]), Config))})
      || {First, CSeq} <- [{"SIP/2.0 200 = 2**3 * 5**2 \xd0\xbd", "35 INVITE"}, {"SIP/2.0 100 ", "35 INVITE"}, {"SIP/2.0 4294967301 better not break", "1 INVITE"},
@@ -415,7 +417,7 @@ silent_connections_end(Config) ->
     ok = gen_tcp:send(Talking, "\r\nOPTIONS"),
     ?assertEqual({error, closed}, gen_tcp:recv(Talking, 0, 2000)).
 
-%% A phone's connection is kept during a call, even if the phone sends nothing.
+%% A phone's connection notes its calls. As long as there are any, it has a longer timeout.
 a_call_keeps_its_connection(Config) ->
     Phone = phone:start_tcp(sip(Config), "100"),
     Calling = phone:invite(phone:sdp(Phone), Phone),

@@ -55,8 +55,8 @@ a_kill_in_a_line_test_() -> {timeout, 600, fun() -> audited(fun(Config = #{file 
      end || Size <- lists:seq(0, byte_size(Whole))]
 end) end}.
 
-%% Only the owner can read a log. The mode of a private file isn't changed: that call also sets the owner, for which the
-%% unit's sandbox used to kill the controller.
+%% Only the owner can read a log. The mode of a private file isn't changed: that call also sets the owner, which the
+%% unit's sandbox doesn't allow.
 a_log_is_private_test() -> audited(fun(Config = #{file := File}) ->
     Mode = fun() ->
         {ok, #file_info{mode = M}} = file:read_file_info(File),
@@ -88,7 +88,7 @@ files_are_renamed_test() -> audited(fun(Config) ->
     ok = stop(Pid)
 end).
 
-%% If the controller ends after the file was renamed, no line is lost, and the numbers continue.
+%% If the controller ends before or after the file is renamed, no line is lost, and the numbers continue.
 a_kill_while_files_are_renamed_test() -> [audited(fun(Config = #{file := File}) ->
     Pid = start(Config),
     [write(What) || What <- lists:seq(1, 6)],
@@ -103,7 +103,7 @@ a_kill_while_files_are_renamed_test() -> [audited(fun(Config = #{file := File}) 
     ok = stop(Again)
 end) || IsRenamed <- [true, false]].
 
-%% Isolating works on a full disk (/dev/full), and leaves a gap in the numbers.
+%% On a full disk (/dev/full), writing a line returns `ok', and leaves a gap in the numbers.
 a_full_disk_test_() -> {timeout, 60, fun() -> audited(fun(Config = #{file := File}) ->
     with_counters(fun() ->
         Pid = start(Config#{bytes := 100000}),

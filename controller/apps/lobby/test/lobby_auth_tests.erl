@@ -15,8 +15,8 @@ networks_test() ->
     ?assertNot(lobby_auth:is_in(?ADDRESS, [{{192, 0, 2, 6}, 32}])),
     ?assertNot(lobby_auth:is_in(?ADDRESS, [{{192, 0, 3, 0}, 24}])).
 
-%% A caller may offer only the address that the offer came from, unless a trusted proxy sent the offer or the address is
-%% in a configured network.
+%% A caller may offer only the address that the offer came from, or 0.0.0.0 (hold), unless a trusted proxy sent the
+%% offer or the address is in a configured network.
 media_test() ->
     Trust = fun(Proxies, Media) -> #{proxies => Proxies, media => Media} end,
     Other = {198, 51, 100, 9},

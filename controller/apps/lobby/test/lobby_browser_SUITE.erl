@@ -1,5 +1,5 @@
-%% Tests members who join by links from Chromium, through rtpengine, together with two phones. Each plays a tone. Each
-%% packet that a member receives is searched for all tones; a browser's packets are searched after Chromium has
+%% Tests members who join by links from Chromium, through rtpengine, together with two phones. Each member plays a tone.
+%% Each packet that a member receives is searched for all tones; a browser's packets are searched after Chromium has
 %% decrypted them. No test depends on timing. Without the Debian packages chromium and rtpengine-daemon, the suite is
 %% skipped.
 -module(lobby_browser_SUITE).
@@ -72,7 +72,7 @@ end_relay(Relay) ->
 tab_for(Browser, Origin) ->
     Tab = chromium:tab(Browser),
     chromium:microphone(granted, Origin, Tab),
-    %% A connection can lose packets later only if such a rule was in effect when the connection was made.
+    %% A connection can lose packets later only if a rule about lost packets was in effect when it was made.
     ok = lose(0, Tab),
     Tab.
 

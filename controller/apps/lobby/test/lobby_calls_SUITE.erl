@@ -1,4 +1,4 @@
-%% Tests SIP calls with real gateways, and with a phone that a test controls step by step.
+%% Tests SIP calls with real gateways: with a phone that a test controls step by step, with SIPp, and with baresip.
 -module(lobby_calls_SUITE).
 
 -include_lib("common_test/include/ct.hrl").
@@ -34,7 +34,7 @@ gateways(Case) ->
         false -> 1
     end.
 
-%% Timers are short here: a phone that doesn't answer times out after 64 * t1.
+%% In some cases, timers are short: a phone that doesn't answer times out after 64 * t1.
 env(addresses_that_may_call) -> [{callers, [{{192, 0, 2, 0}, 24}]}];
 env(passwords) -> [{users, #{<<"test">> => <<"secret">>}}];
 env(session_timers) -> [{min_se, 2}];
@@ -516,7 +516,7 @@ hung_up_and_moved(Config) ->
     lobby_case:until(fun() -> length(members(<<"200">>)) =:= 1 end),
     lobby_case:until(fun() -> lobby_member:hang_up(Id) =:= {error, no_member} end).
 
-%% The room hangs, so neither change has been made yet.
+%% The room hangs, so neither the change nor the end of the call has reached the gateway yet.
 hung_up_during_a_change(Config) ->
     {Phone, _} = call(Config),
     [Id] = members(<<"100">>),
@@ -685,7 +685,8 @@ a_call_that_fails_again_and_again_ends(Config) ->
     lobby_case:until(fun() -> lobby_store:all(lobby_calls) =:= [] andalso members(<<"100">>) =:= [] end),
     lobby_case:until(fun() -> length(gateway:contexts(lists:seq(1, 60), gateway(Config))) =:= 1 end).
 
-%% The call's process is killed after it was registered, while its supervisor still waits for it.
+%% The keeper gets the same report as if the call's process had been killed after it was registered, while its
+%% supervisor still waited for it.
 a_call_that_fails_at_its_start_is_started_again(Config) ->
     {Phone, _} = call(Config),
     [{Key, _}] = lobby_store:all(lobby_calls),
@@ -899,7 +900,7 @@ sipp(Port, Options, Config) ->
     Command = io_lib:format("timeout 60 sipp -sn uac 127.0.0.1:~b -i 127.0.0.1 -p ~b -s 100 ~s -nostdin > ~s 2>&1; echo $?", [Port, Own, Options, Log]),
     string:trim(os:cmd(lists:flatten(Command))).
 
-%% Three baresips with tones are customer, agent and coach. First each hears the two others. Then the customer doesn't
+%% Three baresips with tones are customer, agent and coach. First, each hears the two others. Then the customer doesn't
 %% hear the coach. Finally the customer is isolated.
 baresips(Config) ->
     {_, Port} = sip(Config),

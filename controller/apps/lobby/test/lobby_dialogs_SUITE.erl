@@ -1,5 +1,5 @@
 %% Tests the responses of a call in its dialog (RFC 3261, RFC 3264, RFC 4028), and the addresses to which the gateway
-%% sends.
+%% sends. Sections are those of RFC 3261, unless another RFC is named.
 -module(lobby_dialogs_SUITE).
 
 -include_lib("stdlib/include/assert.hrl").

@@ -219,7 +219,7 @@ begun_anew(First, Second) ->
     ?assertNot(lobby_gateway:reserve(Before, <<"200">>, [dave])),
     ?assertEqual([{alice, carol}, {carol, alice}], heard(<<"100">>, #{<<"a">> => G1})).
 
-%% Returns whether the members are in one context with no other terminations.
+%% Returns whether the members are in one context, without other terminations, and all of them talk and hear.
 made_again(Locals, G) ->
     #{context := Context, members := Members} = people:describe(<<"100">>),
     Context =/= new andalso length(gateway:terminations(Context, G)) =:= length(Locals)
@@ -246,7 +246,7 @@ one_that_was_out_of_reach_is_cleaned(_) ->
     ?assertEqual([sentinel(Stopped)], gateway:contexts(lists:seq(1, 60) ++ lists:seq(500, 560), Stopped)),
     ?assertEqual([{alice, bob}, {bob, alice}], heard(<<"100">>, Gs)).
 
-%% This node of a pair may have been cut off. It subtracts nothing until it would have learned that.
+%% This node of a pair may have been cut off, so it subtracts nothing until it would have learned of that.
 of_a_pair_it_is_cleaned_later(_) ->
     Gs = maps:from_list([{Name, gateway:start()} || Name <- [<<"a">>, <<"b">>]]),
     ok = persistent_term:put(lobby_lease, {atomics:new(1, []), 1 bsl 60}),
@@ -340,7 +340,7 @@ one_with_a_journal_comes_back(Config) ->
     end, G, [1, 2]),
     receive {moved, Id, Local} -> error({moved, Id, Local}) after 0 -> ok end.
 
-%% The gateway is back before the controller misses it. Calls continue, whether or not the controller has noticed.
+%% The gateway is back soon. Calls continue, whether or not the controller missed it.
 one_that_comes_back_soon_is_not_missed(Config) ->
     {G, Journal} = journaled(5000, [], Config),
     Before = people:describe(<<"100">>),
@@ -450,8 +450,8 @@ one_that_comes_back_with_less_is_corrected(Config) ->
     ?assertEqual([0, 1, 1, 0, 1], counts()),
     ?assertEqual(2, length(gateway:contexts(lists:seq(1, 60), G))).
 
-%% The controller ends while a request that creates a context is under way, and one room is lost. The next run continues
-%% the other conference, and subtracts everything else.
+%% The controller ends while a request that creates a context is under way, and two rooms are lost. The next run
+%% continues the other conference, and subtracts everything else.
 another_run_takes_over(_) ->
     another_run(gateway:start()).
 
@@ -497,7 +497,7 @@ an_old_request_is_run_without_a_fence(_) ->
 
 relayed(Options) ->
     G = gateway:start(Options),
-    %% No room's audit corrects a request that is run late.
+    %% Rooms audit so rarely that no audit corrects a request that is run late.
     ok = application:set_env(lobby, room_audit, 600000),
     {G, relay:start(gateway:address(G), #{lose => 0.0, double => 0.0, delay => 1})}.
 
@@ -579,7 +579,7 @@ numbers_only_rise(_) ->
 next_number(Socket, Before) ->
     case number(Socket) of N when N > Before -> N; _ -> next_number(Socket, Before) end.
 
-%% Returns the number of the next message to a gateway.
+%% Returns the sender's number in the next message to a gateway.
 number(Socket) ->
     {ok, {_, _, Message}} = gen_udp:recv(Socket, 0, 15000),
     case re:run(Message, "^!/1 <(\\d+)\\.lobby>", [{capture, all_but_first, binary}]) of
@@ -613,8 +613,8 @@ one_that_began_anew_between_two_runs(_) ->
     %% The members are added as Inactive before the topology is in effect.
     lobby_case:until(fun() -> all_held(<<"100">>) andalso heard(<<"100">>, #{<<"a">> => New}) =:= [{alice, carol}, {carol, alice}] end).
 
-%% Each process of the controller is killed in turn. The rooms stay, the gateway has no orphaned terminations, and the
-%% rules hold.
+%% Some of the controller's processes are killed in turn. The rooms stay, the gateway has no orphaned terminations, and
+%% the rules hold.
 processes_fail(_) ->
     G = gateway:start(),
     run([{<<"a">>, G}]),
@@ -684,8 +684,8 @@ somebody_else_changes_the_topology(_) ->
     gateway:ask(io_lib:format("Context=~b{Topology{*,*,Isolate}}", [Context]), G),
     lobby_case:until(fun() -> heard(<<"100">>, #{<<"a">> => G}) =:= [{alice, carol}, {carol, alice}] end, 8000).
 
-%% Creates rooms of three members on both gateways. In each room, the isolated member talks, and the others listen.
-%% Returns the rooms and the listeners.
+%% Creates rooms of three members on both gateways. In each room, one member is isolated. Returns the rooms, and the
+%% callers of the other members.
 rooms_of_three(Gs) ->
     run(maps:to_list(Gs)),
     Rooms = [integer_to_binary(N) || N <- lists:seq(1, 6)],
@@ -852,7 +852,7 @@ anything_once(_, W = #{rules := Rules, ids := Ids}) ->
         _ -> W#{rules := Rules#{Room := [Rule || Rule = {_, F, T} <- maps:get(Room, Rules), {F, T} =/= {From, To}] ++ [New]}}
     end.
 
-%% Waits until the room has a running gateway whose flows follow the rules.
+%% Waits until the room is empty, or has a running gateway whose flows follow the rules.
 check(Room, #{gateways := Gs, rules := Rules}) ->
     lobby_case:until(fun() -> agrees(Room, maps:get(Room, Rules), Gs) end).
 

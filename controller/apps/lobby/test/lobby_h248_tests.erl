@@ -44,7 +44,7 @@ acknowledgement_test() ->
     Text = string:lowercase(lobby_h248:acknowledgement(?HERE, [4, 5, 9])),
     ?assertNotEqual(nomatch, re:run(Text, "k\\s*{\\s*4,\\s*5,\\s*9\\s*}")).
 
-%% Decodes a reply. The texts below are replies in the gateway's profile.
+%% Decodes a reply. Most texts below are replies in the gateway's profile.
 answer(Text) ->
     lobby_h248:decode(iolist_to_binary(["MEGACO/1 [127.0.0.1]:2944\n", Text])).
 

@@ -210,7 +210,7 @@ errors(Config) ->
     TooLong = fun Again() -> try ask(put, "/rooms/1", lists:duplicate(70000, $a), Config)
                              catch error:{badmatch, {error, socket_closed_remotely}} -> Again() end end,
     ?assertMatch({413, _, _}, TooLong()),
-    %% These are too many rules.
+    %% At most 256 rules are allowed.
     Many = fun(N) -> "{\"rules\": [" ++ lists:append(lists:join(",", ["{\"hears\": true, \"talker\": {\"role\": \"" ++ integer_to_list(I) ++
                      "\"}, \"listener\": \"everyone\"}" || I <- lists:seq(1, N)])) ++ "]}" end,
     ?assertMatch({409, #{<<"error">> := <<"the room would have too many rules">>}}, ask(post, "/rooms/100/rules", Many(257), Config)),
@@ -348,7 +348,8 @@ the_page(Config) ->
     {200, "text/html; charset=utf-8", Page} = ask(get, "/", "", none, Config),
     ?assertNotEqual(nomatch, binary:match(Page, <<"<title>Lobby</title>">>)).
 
-%% Each request in openapi.json is answered, and rooms have the fields that it lists.
+%% Each request in openapi.json, except for the one for events, is answered with 200, and rooms, members and gateways
+%% have the fields that it lists.
 everything_is_described(Config) ->
     {200, #{<<"paths">> := Paths, <<"components">> := #{<<"schemas">> := Schemas}}} = ask(get, "/openapi.json", "", none, Config),
     Described = [{string:uppercase(binary_to_list(Method)), Path} || {Path, Methods} <- maps:to_list(Paths), Method <- maps:keys(Methods)],
@@ -433,7 +434,7 @@ watchers_are_limited(Config) ->
     ok = gen_tcp:close(hd(Watching)),
     until(fun() -> length(pg:get_local_members(lobby, events)) =:= 31 end),
     ?assertMatch("HTTP/1.1 200 " ++ _, head(watch(?VIEWER, Config))),
-    %% Viewers take no streams from operators. If there are too many operators, the oldest stream is disconnected.
+    %% Viewers take no streams from operators. If an operator's token has too many streams, the oldest one is closed.
     Operators = [begin S = watch(?OPERATOR, Config), "HTTP/1.1 200" ++ _ = head(S), S end || _ <- lists:seq(1, 33)],
     ?assertEqual({error, closed}, gen_tcp:recv(hd(Operators), 0, 2000)),
     _ = phone_joins(Config),
@@ -457,7 +458,8 @@ a_watcher_that_does_not_read(Config) ->
     ?assertEqual([], pg:get_local_members(lobby, events)),
     ?assertMatch({200, _}, ask(get, "/rooms", Config)).
 
-%% All processes that depend on the rooms are restarted with them, including the sockets.
+%% Supervisors, the registry and the store are killed one after the other. Each time, HTTP requests are answered again.
+%% In the end, the call is still in its room.
 supervisors_fail(Config) ->
     Phone = call("100", Config),
     [begin
@@ -526,7 +528,7 @@ request(Method, Path, Headers, Body) ->
 
 with_length(Body) -> ["Content-Length: " ++ integer_to_list(iolist_size(Body))].
 
-%% Every error response is JSON, whatever the request contains.
+%% An error response is JSON, however malformed the path or the body is.
 every_error_is_json(Config) ->
     [?assertMatch({Path, Body, Status, {match, _}},
                   begin
@@ -583,7 +585,7 @@ failures_are_logged(Config) ->
     {ok, Log} = file:read_file(File),
     ?assertNotEqual(nomatch, string:find(Log, "HTTP request " ++ Number ++ ": GET \"/rooms\" was answered 500")).
 
-%% The page runs only its own script, and can't be shown in another site's frame.
+%% A page runs only its own script, and can't be shown in another site's frame.
 pages_are_closed_to_others(Config) ->
     [begin
          {ok, {{_, Status, _}, Headers, _}} = httpc:request(get, {url(Path, Config), []}, [], []),

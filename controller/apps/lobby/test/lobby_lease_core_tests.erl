@@ -216,7 +216,7 @@ a_node_that_starts_answers_after_3_s_test() ->
     ?assertEqual({[5], 3010, [10]}, {served(Actions), limit(Actions), asked(Actions)}),
     ?assertEqual(none, limits([{gone, 10}], Serves)).
 
-%% The node checks this only if a change waits for the result.
+%% The node checks this only while changes would have to wait.
 it_asks_whether_a_lost_node_has_ended_test() ->
     Granted = after_events([lease(120)], serving()),
     Asks = fun(Events, State) -> asked(element(2, run(Events, State))) end,
@@ -228,7 +228,7 @@ it_asks_whether_a_lost_node_has_ended_test() ->
     ?assertEqual([], Asks([lease(230)], Granted)),
     ?assertEqual([], Asks([{lost, 130}], standby())).
 
-%% This value is the priority for keepalived.
+%% keepalived adds these values to its priority.
 its_priority_test() ->
     Ready = fun(Events, State) -> [Value || {ready, Value} <- element(2, run(Events, State))] end,
     ?assertEqual([-254], Ready([tick(#{open => false}, 0)], new())),
@@ -301,8 +301,8 @@ act_one({ask, Asked}, Name, Pair = #pair{now = Now, cut = Cut, wire = Wire}) ->
     Pair#pair{wire = Wire ++ [{Name, Name, {gone, Asked}, Now + 2} || Cut =:= [], not is_up(other(Name), Pair)]};
 act_one(_, _, Pair) -> Pair.
 
-%% Disconnects the nodes. Messages that are under way still arrive, unless the network is cut. Then both nodes learn of
-%% the disconnection.
+%% Disconnects the nodes. Messages that are under way still arrive, unless the network is cut. Afterwards, both nodes
+%% learn of the disconnection.
 disconnected(_, Pair = #pair{connected = false}) -> Pair;
 disconnected(Name, Pair = #pair{wire = Wire, now = Now}) ->
     Lost = [{Name, To, lost, Now + 1} || To <- [Name, other(Name)]],
@@ -343,7 +343,7 @@ step(disconnect, Pair) -> disconnected(a, Pair);
 step({start_again, Name}, Pair) -> again(is_up(Name, Pair), Name, Pair);
 step(change, Pair) -> lists:foldl(fun change/2, Pair, [a, b]).
 
-%% Restarts a node that has ended. The node copies the serving node's data.
+%% Restarts a node that has ended, if it can reach a serving node and copy its data.
 again(false, Name, Pair = #pair{cut = []}) ->
     case node_of(other(Name), Pair) of
         #node{serves = Serves, has = Has, hangs = Hangs} when Serves > 0, Hangs =< Pair#pair.now ->

@@ -385,7 +385,8 @@ what_the_standby_lacks_is_not_durable(Config0) ->
     lease(b, Config),
     ended(B).
 
-%% Until then, the standby may take over, so that calls needn't wait for a lost node.
+%% Until a write to an unreachable node is durable, the standby may take over, so that calls needn't wait for a lost
+%% node.
 what_the_standby_lacks_was_not_answered(Config0) ->
     Config = [{a, A}, {b, B} | _] = with_pids_first(Config0),
     settle(),
@@ -422,7 +423,8 @@ a_conference_waits_for_the_standby(Config0) ->
     ?assertEqual([1], gateway:contexts(lists:seq(1, 20), get(gateway, Config))),
     {_, _} = call(Config).
 
-%% Only a write that was under way takes longer; see above.
+%% Without a standby, a change needn't wait, except for a write that was under way when the standby ended (see
+%% `until_durable/1').
 a_standby_that_ended_costs_nothing(Config0) ->
     Config = [{a, A}, {b, B} | _] = with_pids_first(Config0),
     settle(),

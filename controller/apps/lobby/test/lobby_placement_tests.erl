@@ -20,7 +20,7 @@ a_context_has_to_be_free_test() ->
 %% A member who moves to the preferred gateway may already have a seat there.
 what_is_preferred_is_asked_first_test() ->
     ?assertEqual([{a, 1}, {b, 1}], ranked(1, {a, 1}, [{a, load(10, 2)}, {b, load(2, 0)}])),
-    %% The preferred gateway has been lost since then.
+    %% The preferred gateway has been lost.
     ?assertEqual([{b, 1}], ranked(1, {a, 2}, [{b, load(2, 0)}])).
 
 no_gateway_test() ->

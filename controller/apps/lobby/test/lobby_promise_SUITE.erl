@@ -246,7 +246,7 @@ a_newcomer_whose_topology_is_refused(_) ->
 
 sip() -> element(2, application:get_env(lobby, sip)).
 
-%% Starts a phone that calls under a name, and talks as soon as its call is answered.
+%% Starts a phone that calls with this subject and these headers, and talks as soon as its call is answered.
 calls(Room, Name, Headers) ->
     Phone = phone:start(sip(), Room),
     Calling = phone:invite(phone:sdp(Phone), ["Subject: " ++ Name | Headers], Phone),
@@ -505,7 +505,7 @@ a_large_room_is_closed_again(_) ->
          ?assertEqual(?SILENT, heard(Bob, 300))
      end || _ <- [1, 2]].
 
-%% A change of one member or one room costs no more with 20,000 others.
+%% A change or query of one member or one room costs little more with 20,000 other members.
 nobody_else_is_looked_at(_) ->
     run([{<<"a">>, gateway:start()}]),
     {ok, _} = people:join(<<"100">>, alice, <<"member">>),

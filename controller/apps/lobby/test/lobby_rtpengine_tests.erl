@@ -17,7 +17,7 @@ nothing_can_be_sent_test_() -> {timeout, 60, fun() ->
     ignore = lobby_rtpengine:start_link(none)
 end}.
 
-%% A call whose offer arrives after it was deleted is deleted again.
+%% If a call's offer arrives after the call was deleted, the call is deleted again.
 a_late_offer_test_() -> {timeout, 120, fun() ->
     Relay = rtpengine:start(),
     ok = application:set_env(lobby, rtpengine, rtpengine:address(Relay)),

@@ -79,7 +79,7 @@ refused_test_() ->
 packets_of_20_ms_test() ->
     [?assertMatch({Lines, {ok, _}}, {Lines, offer(["m=audio 4000 RTP/AVP 0" | Lines])})
      || Lines <- [["a=ptime:20"], ["a=maxptime:20"], ["a=maxptime:150", "a=ptime:20"], ["a=maxptime:20.5"]]],
-    %% The second stream has its own ptime, so it is chosen.
+    %% Only the second stream has a ptime of 20, so it is chosen.
     {ok, Session} = offer(["m=audio 4000 RTP/AVP 0", "a=ptime:30", "m=audio 4002 RTP/AVP 0", "a=ptime:20"]),
     ?assertMatch({{_, 4002}, _}, lobby_sdp:media(Session)).
 

@@ -113,7 +113,7 @@ a_race_and_a_failure_test_() ->
     searched(#{joined => ?APART, races => 1, changes => {1, [isolate, move]},
                faults => {1, [kill_room, kill_person]}}).
 
-%% A person who calls again has a new id, although the previous call may have left terminations behind.
+%% A person who calls again has a new id, and the previous call may have left terminations behind.
 calling_again_test_() ->
     searched(#{rooms => [<<"1">>], changes => {3, [leave, join]}}).
 

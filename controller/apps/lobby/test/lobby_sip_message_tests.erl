@@ -67,7 +67,7 @@ what_is_no_message_is_refused() ->
     [?assertEqual({error, not_sip}, lobby_sip_message:decode(Text, ?SOURCE))
      || Text <- [<<>>, <<"\r\n\r\n">>, <<"hello">>, text(without("Via"), ""), <<"SIP/2.0 200 OK\r\n\r\n">>,
                  text(["SIP/2.0 200 OK" | tl(without("From"))], "")]],
-    %% RFC 2543 had no tags.
+    %% In RFC 2543, a tag in From is optional.
     ?assertMatch({ok, _}, decode(without("From") ++ ["From: <sip:alice@10.0.0.5>"])).
 
 via(Message) -> hd(lobby_sip_message:header(via, Message)).
@@ -136,7 +136,7 @@ datagram() ->
                                <<Before/binary, Bytes/binary, (binary:part(After, min(1, byte_size(After)), max(0, byte_size(After) - 1)))/binary>>
                            end, Whole, Cuts))]).
 
-%% Each message that is read, or rejected with a status, can be answered.
+%% Each request that is read, or rejected with a status, can be answered. Each response can be encoded again.
 prop_any_datagram_is_read_or_refused() ->
     ?FORALL(Datagram, datagram(),
             case lobby_sip_message:decode(Datagram, ?SOURCE) of

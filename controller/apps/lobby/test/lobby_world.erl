@@ -4,7 +4,7 @@
 %% Between any two events, a change can be requested, and a process can be killed. A gateway can end, and restart empty
 %% or from its journal. The other node of a pair can take over. A datagram can be lost, duplicated, or delayed for long.
 %% Messages arrive in the order in which they were sent, except for a few that overtake others. Timers expire only when
-%% no other event is possible, so nothing waits without a reason; but the timers of rooms and members may expire early.
+%% no message is under way, so nothing waits without a reason; but the timers of rooms and members may expire early.
 -module(lobby_world).
 
 -export([start/1, model/1, format/1]).
@@ -59,9 +59,9 @@
 -type asked() :: {Key :: term(), Number :: term()}.
 -opaque world() :: #world{}.
 
-%% For so many milliseconds, a copy of a request can still arrive.
+%% Milliseconds for which a copy of a request can still arrive.
 -define(QUIET, 5000).
-%% For so many milliseconds after a cut, the other node can still take over.
+%% Milliseconds after a cut for which the other node can still take over.
 -define(ALONE, 3010).
 
 %%% The start of a world: gateways that serve, and members who have joined.
@@ -552,8 +552,7 @@ person_acts(Id, {answer, {joins, Id}, {error, _}}, W = #world{people = People}) 
     W#world{people = maps:remove(Id, People)};
 person_acts(_, {answer, _, _}, W) -> W.
 
-%% Sends an event to a room, as `lobby_room' does. Starts the room if the event admits a member, or if the room is
-%% stored.
+%% Sends an event to a room, as `lobby_room' does. Starts the room if the event may create it, or if the room is stored.
 tell_room(R, Event, From, W = #world{rooms = Rooms, store = Store, options = Options}) ->
     IsNew = lists:member(element(1, Event), [admit, want, rules]),
     case is_map_key(R, Rooms) orelse IsNew orelse is_map_key({lobby_rooms, R}, Store) of
@@ -664,8 +663,8 @@ persons(Oracle, World) ->
     maps:from_list([{T, person(binary_to_integer(Host), binary_to_integer(Port))}
                     || {T, {<<"10.0.0.", Host/binary>>, Port}} <- maps:to_list(oracle:remotes(Oracle, World))]).
 
-%% Returns the broken promises: a person is heard against a promise or, when no message is under way, a person isn't in
-%% the right room.
+%% Returns the broken promises: a person is heard against a promise or, when no message or timer is pending, a person
+%% isn't in the right room.
 broken(W) ->
     case [{Promise, Flow} || Flow <- heard(W), Promise <- broken_by(Flow, W)] of
         [] -> case deliveries(W) ++ timeouts(W) of [] -> resting(W); _ -> [] end;
@@ -724,8 +723,8 @@ rested(W, Left) ->
         [] -> W
     end.
 
-%% Returns members who are missing on the gateways, and people who shouldn't be there. While no gateway has seats for a
-%% room, its members wait.
+%% Returns what is wrong: members who are missing on the gateways, or people who shouldn't be there, for example. While
+%% no gateway has seats for a room, its members wait.
 left_over(W = #world{store = Store, people = People, rooms = Rooms}) ->
     Members = [Id || {{lobby_members, Id}, _} <- maps:to_list(Store)],
     There = there(W),

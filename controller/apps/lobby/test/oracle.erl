@@ -50,7 +50,7 @@
                 running = [] :: [{id(), port()}], spare = [] :: [port()]}).
 -type state() :: #state{}.
 
-%% @doc Starts an oracle. The gateway's program is BRIDGE, or in dist/.
+%% @doc Starts an oracle. The gateway's program is the one at BRIDGE or, by default, the one in dist/.
 -spec start(options()) -> oracle().
 start(Options0) ->
     Options = #{lost := Lost, servers := Servers} = maps:merge(?DEFAULTS, Options0),
@@ -72,7 +72,7 @@ run(#oracle{servers = Servers, table = Table, lost = Lost}, {Id, Past}, Datagram
     Text = iolist_to_binary(Datagram),
     {Replies, Next} = case ets:lookup(Table, {step, Id, Text}) of
         [{_, Known}] -> Known;
-        %% A process that continues in a world asks the server that has a gateway in that world.
+        %% A process always asks the same server, which may still have a gateway in this world.
         [] -> call(element(erlang:phash2(self(), tuple_size(Servers)) + 1, Servers), {run, Id, Text})
     end,
     {Replies, {Next, lists:sublist([Id | Past], Lost)}}.
@@ -286,7 +286,7 @@ set(T, Key, Value, Terminations) ->
     #{T := Termination} = Terminations,
     Terminations#{T := Termination#{Key := Value}}.
 
-%% Returns the kept replies. Replies with a transaction number are kept until their sender acknowledges them.
+%% Returns the kept replies. Replies with a transaction number are kept until the requests' sender acknowledges them.
 kept(Datagram, Replies, Kept) ->
     Sender = iolist_to_binary(found(<<"^(?:MEGACO|!)/1\\s+(\\S+)">>, Datagram)),
     Answered = found(<<"Reply=(\\d+)\\{">>, iolist_to_binary(Replies)),

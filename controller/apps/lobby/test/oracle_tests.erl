@@ -161,7 +161,7 @@ a_journal_may_lack_its_end_test_() ->
         [?_assertEqual(Isolated, oracle:resume(Isolated, 0)),
          ?_assertEqual([{1, 2}, {2, 1}], Flows(Resumed)),
          ?_assertEqual([], Flows(oracle:resume(Isolated, 2))),
-         %% The gateway continues from there, and a later restart may lack the end of that, too.
+         %% The gateway continues from there, and at a later restart, its journal may lack the end of that, too.
          ?_assertEqual([], Flows(world([request(3, "Context=1{Topology{RTP/1,RTP/2,Isolate}}")], Resumed, Oracle))),
          ?_assertEqual(oracle:resume(Isolated, 2), oracle:resume(Resumed, 1)),
          %% A journal can't lack more than `lost' datagrams.

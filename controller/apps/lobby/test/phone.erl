@@ -1,4 +1,5 @@
-%% A SIP phone for tests, which writes and reads its messages as text, and only does what a test asks.
+%% A SIP phone for tests, which writes and reads its messages as text. Unless it is automatic, it only does what a test
+%% asks.
 -module(phone).
 
 -export([received/2, automatic/2, automatic/3, start_tcp/2, start_tls/2, send_slowly/2, start/1, start/2, invite/2, invite/3, request/3, request/4, answer/3, answer/4, ack/1, ack/2, recv/1, recv/2, flush/1, sdp/1, sdp/2,
@@ -9,7 +10,7 @@
 
 -record(phone, {transport = "UDP", socket, port, to, room, call_id, tag, cseq = 0, remote_tag = "", extra = [], caller}).
 
-%% Starts a phone that calls a room, talks continuously, and answers each request.
+%% Starts a phone that calls a room, talks continuously, and answers re-INVITEs and BYEs.
 automatic(To, Room) -> automatic(To, Room, fun caller:start/0).
 
 %% The phone gets its media from `Start'.

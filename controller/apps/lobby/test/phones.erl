@@ -26,7 +26,7 @@ call(Pid, Window) ->
 
 forget(Pid) -> Pid ! forget, ok.
 
-%% Sends a request in the first call until it is answered. Returns the time of the answer.
+%% Sends requests in the first call until one of them is answered. Returns the time of the answer.
 options(Pid) ->
     Pid ! options,
     receive {Pid, options, When} -> When end.

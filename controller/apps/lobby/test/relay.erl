@@ -19,7 +19,7 @@ address({_, Port}) -> {{127, 0, 0, 1}, Port}.
 %% Rejects requests that contain this text, or all texts of a list, with error 510. They don't reach the gateway.
 refuse({Pid, _}, Text) -> Pid ! {refuse, Text}, ok.
 
-%% Drops requests with this text.
+%% Drops requests that contain this text, or all texts of a list.
 drop({Pid, _}, Text) -> Pid ! {drop, Text}, ok.
 
 %% Keeps copies of requests with this text, even if they are dropped.
@@ -35,8 +35,8 @@ asked(What, Pid) ->
 %% Lets all requests reach the gateway again.
 pass({Pid, _}) -> Pid ! pass, ok.
 
-%% Waits until all replies before the call are acknowledged: after the quiet time, with one of the audits.
-%% Acknowledgements are copied, too.
+%% Waits until all replies before the call are acknowledged, which happens after the quiet time. The acknowledgements
+%% are copied, too.
 wait_for_acknowledgements(Quiet, Relay) ->
     timer:sleep(Quiet),
     ok = copy(Relay, <<"K{">>),

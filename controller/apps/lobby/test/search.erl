@@ -129,7 +129,7 @@ parts(List, Size) ->
     {Part, Rest} = lists:split(min(Size, length(List)), List),
     [Part | parts(Rest, Size)].
 
-%% Notes new states. The search doesn't continue after a broken promise.
+%% Notes new states. The search doesn't continue from a state that breaks a promise.
 visit(Steps, S = #search{steps = Count}) ->
     {New, S1} = lists:foldl(fun visit_one/2, {[], S#search{steps = Count + length(Steps)}}, Steps),
     {lists:reverse(New), S1}.
@@ -203,7 +203,7 @@ walk({ok, State}, Model = #{events := Events}, Left, Rand, Way) ->
 walk(Crashed, _, _, _, Way) ->
     {lists:reverse(Way), [Crashed]}.
 
-%% Shrinks a way: removes ever smaller parts, as long as the rest breaks the same promise.
+%% Shrinks a sequence of events: removes ever smaller parts, if the rest still breaks the same promise.
 shrunk(Way, Broken, Model) ->
     shrunk(max(1, length(Way) div 2), Way, Broken, Model).
 

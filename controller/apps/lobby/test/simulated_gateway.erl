@@ -22,7 +22,7 @@ config(#{name := Name, address := Address}) -> #{name => Name, address => Addres
 
 kill(#{pid := Pid}) -> exit(Pid, kill).
 
-%% Returns the numbers of contexts and terminations on a gateway.
+%% Returns how many contexts and terminations a gateway has.
 contexts(#{pid := Pid}) ->
     Pid ! {count, self()},
     receive {Pid, Counts} -> Counts end.

@@ -21,7 +21,7 @@ sample(Code) -> level(255 - Code).
 
 level(Code) -> 4 * (((2 * (Code band 15) + 33) bsl (Code bsr 4)) - 33).
 
-%% Returns the pitches that a packet contains.
+%% Returns those of the given pitches that a packet contains.
 pitches(Packet, Pitches) ->
     Samples = [sample(Code) || <<Code>> <= Packet],
     [Pitch || Pitch <- Pitches, loudness(Samples, Pitch) > ?LOUD].

@@ -191,13 +191,10 @@ class Heard(Commands):
         for text, message in (
             (self.TITLE + "tick\ntock\n", "line 3: bad script line"),
             (self.TITLE + "tick\n# a\ntock\n", "line 4: bad script line"),
-            (self.TITLE + self.CALL + date(18), "line 10: the clock went back"),
-            (self.TITLE + date(20) + "tick\ntick\n" + date(18), "line 5: the clock went back"),
             (self.TITLE + "tick\n" + other, "line 3: the title of another gateway"),
             (self.TITLE + "tick\n\n" + other, "line 4: the title of another gateway"),
             (self.TITLE + "tick\n# missed 18446744073709551615 ticks\n", "too many ticks"),
             (self.TITLE + "# counted ticks\nticks 18446744073709551615\ntick\n", "too many ticks"),
-            (self.TITLE + "# counted ticks\n" + date(20) + "ticks 2\n" + date(18), "line 5: the clock went back"),
             (self.TITLE + "# counted ticks\nticks 7\ntick\n" + other, "line 5: the title of another gateway"),
             (self.TITLE + "ticks 3\n", "line 2: bad script line"),
             ("", no_title),
@@ -208,6 +205,23 @@ class Heard(Commands):
                 with self.subTest(text=text, word=word):
                     status, _, errors = run("heard", word, text=text)
                     self.assertEqual((status, errors), (6, f"standard input: {message}\n"))
+
+    def test_a_clock_that_was_set_back(self):
+        """It shows the time from 14:03:20 until 14:03:22 twice. The first caller hears the second only the first time."""
+        text = self.TITLE + date(20) + PAIR + "tick\n" * 100 + date(20) + PART + "tick\n" * 200
+        gap = "gap from 2026-11-27T14:03:22Z (tick 100) until 2026-11-27T14:03:20Z (tick 100)\n"
+        first = ("RTP/1 could hear RTP/2 in context 1 from 2026-11-27T14:03:20Z (tick 0) until 2026-11-27T14:03:20Z"
+                 " (tick 100)\n")
+        second = "RTP/2 could hear RTP/1 in context 1 from 2026-11-27T14:03:20Z (tick 0) until the end\n"
+        self.ends(0, gap + first + second, "", "heard", text=text)
+        for start, end, wanted in ((18, 20, ""), (20, 21, gap + second), (21, 22, gap + second), (22, 24, second)):
+            words = [f"--from=2026-11-27T14:03:{start}Z", f"--to=2026-11-27T14:03:{end}Z"]
+            self.ends(0, wanted, "", "heard", *words, text=text)
+        for time, statuses in (("19.9", (2, 2)), ("20", (2, 2)), ("21.99", (2, 2)), ("22", (1, 0)), ("24", (2, 2))):
+            for listener, wanted in zip("12", statuses):
+                words = [f"--at=2026-11-27T14:03:{time}Z", f"--listener=RTP/{listener}"]
+                with self.subTest(words):
+                    self.assertEqual(run("heard", *words, text=text)[0::2], (wanted, ""))
 
     def test_output_that_is_lost(self):
         for word in ("--format=text", "--format=csv", "--format=json", "--at=2026-11-27T14:03:20Z", "--never=* -> *"):
@@ -268,7 +282,7 @@ class Intervals(Commands):
             self.ends(0, self.table(rows), "", "heard", "--format=csv", text=TITLE + script)
 
     def table(self, rows):
-        """Checks the report of these intervals, without times and Remotes: listener, talker, nothing, context and
+        """The report of these intervals, without times and Remotes. A row has listener, talker, nothing, context and
         ticks."""
         lines = [HEAD]
         for listener, talker, rest in (row.split(",", 2) for row in rows):
@@ -301,7 +315,7 @@ class Intervals(Commands):
             self.ends(status, answer, "", "heard", *words, text=text)
 
     def test_counted_ticks(self):
-        """A line with a number is as many lines `tick`."""
+        """A line with a number counts as that many lines `tick`."""
         mark = "# counted ticks\n"
         text = (
             TITLE + mark + date(20) + PAIR + "ticks 2\n" + PART + "ticks 1\n# missed 2 ticks\nticks 2\ntick\n"
@@ -312,7 +326,7 @@ class Intervals(Commands):
         for words in (["--format=csv"], ["--format=json"], ["--never=RTP/2 -> RTP/1"], ["--listener=RTP/1"]):
             wanted = run("heard", *words, text=plain)
             self.assertEqual((wanted[2], run("heard", *words, text=text)), ("", wanted))
-        # A year and an age are one step.
+        # A year, or almost 2^64 ticks, take one step.
         year = f"ticks {365 * 86400 * 50}\n"
         for count, lines in ((365 * 86400 * 50, year), (2**64 - 2, f"ticks {2**64 - 2}\n")):
             answer = f"RTP/1 could hear RTP/2 in context 1 from tick 1 until tick {count + 1}\n"
@@ -339,7 +353,7 @@ class Intervals(Commands):
             ([f"--to={hour}:20.1Z"], gap + first),
         ):
             self.ends(0, wanted, "", "heard", *words, text=text)
-        # A listener selects no gaps.
+        # The choice of a listener doesn't affect gaps and fences.
         said = "standard input: RTP/1 was never there\n"
         self.ends(2, second, said, "heard", "--listener=RTP/1", f"--from={hour}:20.09Z", text=text)
         table = (
@@ -350,7 +364,7 @@ class Intervals(Commands):
         self.ends(0, table, "", "heard", "--format=csv", text=text)
         line = f'{{"kind":"fence 4294967295","first_tick":5,"end_tick":5,"from":"{hour}:20.1Z","until":"{hour}:20.1Z"}}\n'
         self.ends(0, line, "", "heard", "--format=json", f"--from={hour}:20.09Z", text=text)
-        # The interval contains no time.
+        # The interval of a fence is empty.
         self.ends(1, "could not hear\n", "", "heard", f"--at={hour}:20.08Z", text=text)
         self.ends(0, "", "", "heard", "--never=* -> *", text=text)
 
@@ -518,7 +532,7 @@ class Names(Commands):
         ):
             self.ends(0, wanted, "", *self.words, *words, text=self.TEXT)
         self.ends(0, first, "", *self.words, "--at=2026-11-27T14:03:20Z", "--listener=Customer", text=self.TEXT)
-        # A name with two keys, of which the second one applies.
+        # A name with three keys, of which the second one applies.
         self.named("RTP/9,Staff\nRTP/2,Staff\nRTP/8,Staff\n")
         self.ends(0, self.called(self.FIRST, "", "Staff"), "", *self.words, "--talker=Staff", text=self.TEXT)
 

@@ -13,7 +13,7 @@ use Rattle.mg_core.specs.Follow.{ticks_of}
 use Rattle.mg_core.specs.Note.{Note, Comment, Happened, events_in}
 use Rattle.mg_dates.specs.Times.{after_date, after_ticks, agreement_of, date_in, next_tick, timeline_of}
 use Rattle.mg_dates.specs.declared.agreement.Agreement.{Agreement}
-use Rattle.mg_dates.specs.declared.agreement.Agreement.TheVariants.{Agrees, First}
+use Rattle.mg_dates.specs.declared.agreement.Agreement.TheVariants.{Agrees, First, JumpedAhead, WentBack}
 use Rattle.mg_dates.specs.declared.date.Date.{Date}
 use Rattle.mg_dates.specs.declared.timeline.Timeline.{Timeline}
 use Rattle.mg_dates.proofs.TimeLemmas.{timeline_datagram, timeline_ticks}
@@ -359,6 +359,13 @@ timed_on older next tick later Told ToldNext more (Ok done) tells timed before (
     (tells before told, timed before h)
 timed_on older next tick later Told ToldNext more (Err error) tells timed before h = tt
 
+-- If the clock was set, there is a gap.
+pub jump : (agreement : Agreement) (first end : Moment) → (agreement ≡ WentBack) ⊎ (agreement ≡ JumpedAhead) →
+    Some (record { first = first; end = end; fence = None }) ≡ gap_if (is_jump agreement) first end
+jump agreement first end (inl is) = sym (ap (λ (a : Agreement). gap_if (is_jump a) first end) is)
+jump agreement first end (inr is) = sym (ap (λ (a : Agreement). gap_if (is_jump a) first end) is)
+
+-- If the clock wasn't set, there is no gap.
 pub no_jump : (agreement : Agreement) (first end : Moment) → (agreement ≡ First) ⊎ (agreement ≡ Agrees) →
     None ≡ gap_if (is_jump agreement) first end
 no_jump agreement first end (inl is) = sym (ap (λ (a : Agreement). gap_if (is_jump a) first end) is)

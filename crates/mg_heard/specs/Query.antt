@@ -1,5 +1,5 @@
 -- The intervals and gaps that a query selects.
-use Rattle.std.specs.Prelude.{ℕ, ◌==◌, ◌&&◌, Bool, true, false, nat_eq, nat_le, nat_lt, List, Option}
+use Rattle.std.specs.Prelude.{ℕ, ◌==◌, ◌&&◌, ◌||◌, Bool, true, false, nat_eq, nat_le, nat_lt, List, Option}
 use Rattle.std.specs.Prelude.{Some, codes, drop, if◌then◌else◌}
 use Rattle.std.specs.List.{list_any, starts_with}
 use Rattle.std.specs.Option.{option_map, option_map_or, option_or}
@@ -75,5 +75,6 @@ covers x time =
 -- that it showed twice.
 abbrev pub selects_entry : Query → Entry → Bool
 selects_entry q (entries.Interval x) = selects q x
-selects_entry q (entries.Gap gap) = may_overlap q gap.first (Some gap.end)
+selects_entry q (entries.Gap gap) =
+    may_overlap q gap.first (Some gap.end) || may_overlap q gap.end (Some gap.first)
 selects_entry q (entries.Audible x) = selects q x

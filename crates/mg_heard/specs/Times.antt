@@ -10,7 +10,7 @@ use Rattle.mg_core.specs.Follow.{ticks_of}
 use Rattle.mg_core.specs.Note.{Note, Comment, Happened, events_in}
 use Rattle.mg_dates.specs.Times.{agreement_of, date_in, next_tick, timeline_of}
 use Rattle.mg_dates.specs.declared.agreement.Agreement.{Agreement}
-use Rattle.mg_dates.specs.declared.agreement.Agreement.TheVariants.{JumpedAhead}
+use Rattle.mg_dates.specs.declared.agreement.Agreement.TheVariants.{JumpedAhead, WentBack}
 use Rattle.mg_dates.specs.declared.date.Date.{Date}
 use Rattle.mg_fence.specs.Reached.{number_set}
 use Rattle.mg_heard.specs.declared.extent.Extent.{Extent}
@@ -46,6 +46,7 @@ abbrev pub gap_if : Bool → (first end : Moment) → Option Gap
 gap_if b first end = if b then Some (record { first = first; end = end; fence = None }) else None
 
 abbrev pub is_jump : Agreement → Bool
+is_jump WentBack = true
 is_jump JumpedAhead = true
 is_jump _ = false
 

@@ -7,6 +7,7 @@ use Rattle.mg_heard.specs.declared.entry.Entry.{Entry}
 use Rattle.mg_heard.specs.declared.extent.Extent.{Extent}
 use Rattle.mg_heard.specs.declared.gap.Gap.{Gap}
 use Rattle.mg_heard.specs.declared.interval.Interval.{Interval}
+use Rattle.mg_heard.specs.declared.moment.Moment.{Moment}
 use Rattle.mg_heard.specs.declared.query.Query.{Query}
 use Rattle.mg_heard.specs.declared.verdict.Verdict.{Verdict}
 use Rattle.mg_heard.specs.declared.verdict.Verdict.TheVariants.{CouldHear, CouldNotHear, Unknown}
@@ -17,9 +18,14 @@ use Rattle.mg_heard.specs.Told.{gaps_in, heard_in}
 abbrev pub heard_at : Query → Date → List Entry → Option Interval
 heard_at query time xs = find (λ x. selects query x && covers x time) (heard_in xs)
 
--- Whether the gap is known to contain the time.
+-- Whether the time is known to lie between these two moments.
+abbrev pub is_between : (first end : Moment) → Date → Bool
+is_between first end time = is_past false first time && is_future false end time
+
+-- Whether the gap is known to contain the time. If the clock was set back, the gap ends at an earlier date than it
+-- begins, and contains the times that the clock showed twice.
 abbrev pub is_in_gap : Gap → Date → Bool
-is_in_gap gap time = is_past false gap.first time && is_future false gap.end time
+is_in_gap gap time = is_between gap.first gap.end time || is_between gap.end gap.first time
 
 -- The first gap that contains the time.
 abbrev pub gap_at : Date → List Entry → Option Gap

@@ -108,7 +108,7 @@ impl Clock {
             (gap ≡ gap_of line.now older) × IsClock (Comment line.now ∷ older) self.new) }
     {
         match date_in(line) {
-            Some(date) => self.pass_date(date, number, line),
+            Some(date) => Ok(self.pass_date(date, line)),
             None => self.pass_undated(number, line),
         }
     }
@@ -142,26 +142,25 @@ impl Clock {
         }))
     }
 
-    /// Updates the clock for the date in a comment. If the date is more than a second later than expected, returns the
-    /// gap before it. Fails if the date is more than a second earlier than expected.
-    fn pass_date(&mut self, date: Date, number: u64, line: &[u8]) -> Result<Option<Gap>, ClockFault>
+    /// Updates the clock for the date in a comment. Returns the gap before the date if the date is more than a second
+    /// earlier or later than expected.
+    fn pass_date(&mut self, date: Date, line: &[u8]) -> Option<Gap>
         requires dated { date_in line.now ≡ Some date }
         ensures ticks { self.new.ticks ≡ self.old.ticks }
-        ensures value { (older : List Note) → IsClock older self.old → IfOk result (λ gap.
-            (gap ≡ gap_of line.now older) × IsClock (Comment line.now ∷ older) self.new) }
+        ensures value { (older : List Note) → IsClock older self.old →
+            (result ≡ gap_of line.now older) × IsClock (Comment line.now ∷ older) self.new }
     {
         let first = self.now();
         let agreement = self.timeline.pass_date(date);
         let end = self.now();
         self.first = self.first.or(Some(end));
         match agreement {
-            Agreement::WentBack => Err(ClockFault::WentBack(number)),
-            Agreement::JumpedAhead => Ok(Some(Gap {
+            Agreement::WentBack | Agreement::JumpedAhead => Some(Gap {
                 first,
                 end,
                 fence: None,
-            })),
-            Agreement::First | Agreement::Agrees => Ok(None),
+            }),
+            Agreement::First | Agreement::Agrees => None,
         }
     }
 

@@ -3,9 +3,6 @@ use thiserror::Error;
 /// The reason why a clock cannot continue a script.
 #[derive(Clone, Copy, Debug, PartialEq, Eq, Error)]
 pub enum ClockFault {
-    /// The date in the line with this number, counted from 1, is earlier than the ticks before it allow.
-    #[error("line {0}: the clock went back")]
-    WentBack(u64),
     /// The line with this number, counted from 1, is the title of another gateway.
     #[error("line {0}: the title of another gateway")]
     OtherGateway(u64),

@@ -1,5 +1,5 @@
 ghost use Rattle.std.specs.Prelude.{◌≡◌};
-ghost use Rattle.mg_heard.specs.Verdict.{is_in_gap};
+ghost use Rattle.mg_heard.specs.Verdict.{is_between, is_in_gap};
 
 use crate::moment::Moment;
 use mg_dates::Date;
@@ -18,11 +18,18 @@ pub struct Gap {
     pub fence: Option<u32>,
 }
 
+/// Returns whether a time is known to lie between two moments.
+fn is_between(first: &Moment, end: &Moment, time: Date) -> bool
+    ensures value { result ≡ is_between first.now end.now time }
+{
+    first.is_past(time) && end.is_future(time)
+}
+
 impl Gap {
     /// Returns whether a time is known to lie in the gap.
     pub(crate) fn contains(&self, time: Date) -> bool
         ensures value { result ≡ is_in_gap self.now time }
     {
-        self.first.is_past(time) && self.end.is_future(time)
+        is_between(&self.first, &self.end, time) || is_between(&self.end, &self.first, time)
     }
 }

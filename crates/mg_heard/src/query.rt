@@ -99,7 +99,10 @@ impl Query {
     {
         match entry {
             Entry::Interval(interval) => self.selects(interval),
-            Entry::Gap(gap) => self.may_overlap(gap.first, Some(gap.end)),
+            Entry::Gap(gap) => {
+                self.may_overlap(gap.first, Some(gap.end))
+                    || self.may_overlap(gap.end, Some(gap.first))
+            }
             Entry::Audible(interval) => self.selects(interval),
         }
     }

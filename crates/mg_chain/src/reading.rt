@@ -4,10 +4,10 @@ ghost use Rattle.mg_chain.specs.Seals.{seals_of};
 use crate::check::Check;
 use crate::seals::Seals;
 use std::alloc::Global;
-use std::io::{self, BufRead, Error, ErrorKind};
+use std::io::{self, BufRead, BufReader, Error, ErrorKind, Read};
 
-/// Reads a text to its end, and returns the counts of its seals and lines. The longest line has to fit in memory.
-pub fn read_seals<R: BufRead>(alloc: Global, reader: &mut R) -> io::Result<Seals>
+/// Reads a text to its end, and returns the counts of its seals and lines.
+fn read_lines<R: BufRead>(alloc: Global, reader: &mut R) -> io::Result<Seals>
     ensures value { IfOk result (λ seals. IfSome (R.remaining reader.old) (λ text. seals ≡ seals_of text)) }
 {
     let mut check = Check::new();
@@ -20,4 +20,12 @@ pub fn read_seals<R: BufRead>(alloc: Global, reader: &mut R) -> io::Result<Seals
         check.take_line(number, line.as_slice());
     }
     Err(Error::from(ErrorKind::FileTooLarge))
+}
+
+/// Reads a text to its end, and returns the counts of its seals and lines. The longest line has to fit in memory.
+pub fn read_seals<R: Read>(alloc: Global, reader: &mut R) -> io::Result<Seals>
+    ensures value { IfOk result (λ seals. IfSome (R.remaining reader.old) (λ text. seals ≡ seals_of text)) }
+{
+    let mut buffered = BufReader::new(alloc, reader)?;
+    read_lines(alloc, &mut buffered)
 }

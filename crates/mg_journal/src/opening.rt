@@ -163,6 +163,14 @@ impl<F: JournalFile> Opening<F> {
         self.file.read(self.extent.whole, &mut buffer[..most])
     }
 
+    /// Goes back to the first line, which the next read returns again.
+    pub fn rewind(&mut self)
+        ensures file { self.new.file ≡ self.old.file }
+        ensures front { self.new.read ≡ 0 }
+    {
+        self.read = 0;
+    }
+
     /// Removes a partial last line. Returns the journal, ready for appends. Reads the file's last part again, for the
     /// next seal.
     pub fn accept(self) -> io::Result<FileJournal<F>>

@@ -1,5 +1,4 @@
-ghost use Rattle.std.specs.Prelude.{◌≡◌, ◌⊎◌, IfOk, IfSome, List, Option, ℕ};
-ghost use Rattle.mg_chain.specs.Seals.{seals_of};
+ghost use Rattle.std.specs.Prelude.{◌≡◌, ◌⊎◌, List, Option, ℕ};
 ghost use Rattle.mg_sealing.specs.Report.{answer};
 ghost use Rattle.mg_options.specs.Status.{UnlessFault};
 ghost use Rattle.mg_sealing.specs.Verify.{IsVerified};
@@ -9,18 +8,10 @@ use crate::theorems::changes_show;
 use mg_chain::{Seals, read_seals};
 use mg_options::Status;
 use std::alloc::Global;
-use std::io::{self, BufReader, Error, ErrorKind, Read, Write};
+use std::io::{Error, ErrorKind, Read, Write};
 
 /// The name of standard input in messages.
 const INPUT: &str = "standard input";
-
-/// Returns the counts of seals and lines in a text.
-fn seals_in<R: Read>(alloc: Global, reader: &mut R) -> io::Result<Seals>
-    ensures value { IfOk result (λ seals. IfSome (R.remaining reader.old) (λ text. seals ≡ seals_of text)) }
-{
-    let mut buffered = BufReader::new(alloc, reader)?;
-    read_seals(alloc, &mut buffered)
-}
 
 /// Returns the exit status after a read or a write failed.
 pub(crate) fn status_of(error: &Error) -> Status
@@ -57,7 +48,7 @@ pub fn verify_text<R: Read, W: Write, E: Write>(
         result × (errors.new ≡ errors.old)) result }
 {
     changes_show();
-    let seals = match seals_in(alloc, reader) {
+    let seals = match read_seals(alloc, reader) {
         Ok(seals) => seals,
         Err(error) => {
             let _ = writeln!(errors, "{name}: cannot be read: {error}");

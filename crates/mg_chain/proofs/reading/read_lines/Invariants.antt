@@ -1,6 +1,6 @@
 use Rattle.std.specs.Prelude.{◌<◌}
 use Rattle.mg_chain.specs.aids.Reading.{Reads}
-use Rattle.mg_chain.proofs.reading.read_seals.Given as goal
+use Rattle.mg_chain.proofs.reading.read_lines.Given as goal
 
 abbrev pub invariant-loop-number : goal.invariant-loop-number
 invariant-loop-number g l =

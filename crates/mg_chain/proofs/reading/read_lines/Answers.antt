@@ -1,7 +1,7 @@
 use Rattle.std.proofs.Common.{rules, ap, arith}
 use Rattle.mg_chain.specs.declared.seals.Seals.{Seals}
 use Rattle.mg_chain.proofs.ReadLemmas.{ends, goes_on, starts}
-use Rattle.mg_chain.proofs.reading.read_seals.Goals as goal
+use Rattle.mg_chain.proofs.reading.read_lines.Goals as goal
 
 pub returns-then-branch-eq0 : goal.returns-then-branch-eq0
 returns-then-branch-eq0 g c = record {

@@ -17,15 +17,18 @@
 
 mod live_output;
 mod machine;
+mod standard;
 #[cfg(test)]
 mod tests;
 
 use crate::live_output::LiveOutput;
 use crate::machine::SystemHost;
+use crate::standard::Standard;
 use mg_core::RunFault;
+use mg_host::{Outside, System};
 use mg_options::{Status, program_arguments};
 use mg_outlet::{Outlet, OutletFault, Overflow, SystemPipe};
-use mg_program::{LocalSystem, System, program};
+use mg_program::{Ended, program};
 use std::io::{self, ErrorKind, Stderr, Write};
 use std::process::ExitCode;
 
@@ -35,16 +38,29 @@ const OUTPUT_LIMIT: usize = 64 << 20;
 /// The maximum number of bytes queued for standard error.
 const ERRORS_LIMIT: usize = 1 << 20;
 
-/// Returns the parts of the system that the program uses.
-fn system_of(rt: &HostRuntime) -> System<'_, HostRuntime, HostRuntime, HostRuntime, HostRuntime> {
-    System {
+/// Runs the program on the operating system, with this output, these outlets for errors and reports, and these
+/// arguments.
+fn run<'a, O: Write + Drop, E: Write + Drop>(
+    rt: &'a HostRuntime,
+    output: O,
+    (errors, reports): (E, E),
+    words: &[String],
+) -> Ended<Standard<'a, O, E>> {
+    let system = System {
+        alloc: rt.alloc(),
         net: rt,
-        local: LocalSystem {
-            clock: rt,
-            random: rt,
-            files: rt,
-        },
-    }
+        clock: rt,
+        random: rt,
+        files: rt,
+    };
+    let outside = Outside {
+        host: SystemHost::new(rt, rt),
+        input: rt.stdin(),
+        output,
+        errors,
+        reports,
+    };
+    program(&system, outside, words)
 }
 
 /// Creates an outlet for lines on standard error.
@@ -76,48 +92,27 @@ fn status_without_outlets(fault: &OutletFault) -> Status {
 /// Runs a gateway without waiting for its readers. When `serve` ends, waits until all of its output has been written.
 fn run_gateway(rt: &HostRuntime, words: &[String], is_serve: bool) -> Result<u8, OutletFault> {
     let outlet = Outlet::watching(rt, rt.alloc(), rt.stdout(), OUTPUT_LIMIT, Overflow::End)?;
-    let mut output = LiveOutput::new(outlet, error_outlet(rt)?);
-    let mut errors = error_outlet(rt)?;
-    let mut reports = error_outlet(rt)?;
-    let mut input = rt.stdin();
-    let ended = program(
-        &system_of(rt),
-        SystemHost::new(rt, rt),
-        rt.alloc(),
-        words,
-        &mut input,
-        &mut output,
-        &mut errors,
-        &mut reports,
-    );
+    let output = LiveOutput::new(outlet, error_outlet(rt)?);
+    let Ended {
+        mut outside,
+        status,
+    } = run(rt, output, (error_outlet(rt)?, error_outlet(rt)?), words);
     let passed = if is_serve {
-        output.finish()
+        outside.output.finish()
     } else {
-        output.flush()
+        outside.output.flush()
     };
-    let code = status_at_end(ended.status.code(), &passed, &mut errors);
-    let _ = reports.flush();
-    let _ = errors.flush();
+    let code = status_at_end(status.code(), &passed, &mut outside.errors);
+    let _ = outside.reports.flush();
+    let _ = outside.errors.flush();
     Ok(code)
 }
 
 /// Runs a subcommand that isn't a gateway.
 fn run_plainly(rt: &HostRuntime, words: &[String]) -> u8 {
-    let mut input = rt.stdin();
-    let mut output = rt.stdout();
-    let mut errors = rt.stderr();
-    let mut reports = rt.stderr();
-    let ended = program(
-        &system_of(rt),
-        SystemHost::new(rt, rt),
-        rt.alloc(),
-        words,
-        &mut input,
-        &mut output,
-        &mut errors,
-        &mut reports,
-    );
-    ended.status.code()
+    run(rt, rt.stdout(), (rt.stderr(), rt.stderr()), words)
+        .status
+        .code()
 }
 
 fn main(rt: HostRuntime) -> ExitCode {

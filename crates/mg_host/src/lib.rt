@@ -18,25 +18,31 @@
 
 mod clocks;
 mod dates;
+mod environment;
 mod fake_host;
 mod fake_watch;
 mod host;
 mod host_call;
 mod host_log;
 mod journals;
+mod outside;
 mod sockets;
+mod system;
 mod tells;
 mod texts;
 mod unsent;
 
 pub use crate::clocks::Clocks;
 pub use crate::dates::Dates;
+pub use crate::environment::Environment;
 pub use crate::fake_host::FakeHost;
 pub use crate::fake_watch::FakeWatch;
 pub use crate::host::Host;
 pub use crate::host_call::HostCall;
 pub use crate::journals::Journals;
+pub use crate::outside::Outside;
 pub use crate::sockets::Sockets;
+pub use crate::system::System;
 pub use crate::tells::Tells;
 pub use crate::texts::Texts;
 pub use crate::unsent::Unsent;

@@ -3,6 +3,7 @@ ghost use Rattle.mg_program.specs.Program.{Checks};
 
 use mg_core::Peer;
 use mg_fence::{ACKNOWLEDGEMENT, HEARTBEAT};
+use mg_host::{Environment, Outside, System};
 use mg_options::Status;
 use std::io;
 use std::io::{ErrorKind, Write};
@@ -100,37 +101,38 @@ fn micros_since<C: Clock>(clock: &C, begun: io::Result<Duration>) -> u128 {
 
 /// Checks that a gateway answers a heartbeat from this address, where 0.0.0.0 is any address of the machine. Sends the
 /// heartbeat up to three times, and waits up to one second for each answer. If an answer arrives, prints how long it
-/// took; otherwise, reports the fault to `errors`.
-pub fn check<N: Net, C: Clock, W: Write, E: Write>(
-    net: &N,
-    clock: &C,
+/// took. Otherwise, reports the fault to `errors`; if no answer arrived in time, the report names another address that
+/// answers, if any.
+pub fn check<E: Environment>(
+    system: &System<'_, E>,
+    outside: &mut Outside<E>,
     gateway: Peer,
     source: [u8; 4],
-    output: &mut W,
-    errors: &mut E,
 ) -> Status
-    ensures value { Checks output.old output.new result }
-    ensures quiet { result ≡ Status.Done → errors.new ≡ errors.old }
+    ensures value { Checks outside.old.output outside.new.output result }
+    ensures quiet { result ≡ Status.Done → outside.new.errors ≡ outside.old.errors }
+    ensures host { outside.new.host ≡ outside.old.host }
+    ensures input { outside.new.input ≡ outside.old.input }
 {
     let address = SocketAddrV4::new(Ipv4Addr::from(gateway.address), gateway.port);
     let source = Ipv4Addr::from(source);
-    let socket = match UdpSocket::bind(net, SocketAddrV4::new(source, 0)) {
+    let socket = match UdpSocket::bind(system.net, SocketAddrV4::new(source, 0)) {
         Ok(socket) => socket,
         Err(error) => {
-            let _ = writeln!(errors, "cannot send from {source}: {error}");
+            let _ = writeln!(outside.errors, "cannot send from {source}: {error}");
             return Status::Failed;
         }
     };
-    let begun = clock.monotonic();
+    let begun = system.clock.monotonic();
     if let Err(error) = ask(&socket, address) {
-        report_silence(net, source, address, &error, errors);
+        report_silence(system.net, source, address, &error, &mut outside.errors);
         return Status::NoAnswer;
     }
-    let micros = micros_since(clock, begun);
-    match writeln!(output, "{address} answered in {micros} us") {
+    let micros = micros_since(system.clock, begun);
+    match writeln!(outside.output, "{address} answered in {micros} us") {
         Ok(()) => Status::Done,
         Err(_) => {
-            let _ = writeln!(errors, "write failed");
+            let _ = writeln!(outside.errors, "write failed");
             Status::Failed
         }
     }

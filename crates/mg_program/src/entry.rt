@@ -10,122 +10,110 @@ use crate::ended::Ended;
 use crate::live::live;
 use crate::replay::replay;
 use crate::serve::serve;
-use crate::system::System;
 use crate::verify::verify;
-use mg_arguments::{Invocation, requested_run};
+use mg_arguments::{Draws, Invocation, requested_run};
 use mg_hearing::{audible, heard, watch};
-use mg_host::Host;
+use mg_host::{Environment, Outside, System};
 use mg_options::{Status, report_error};
 use mg_sealing::seal;
-use std::alloc::Global;
+use mg_start::Requested;
 use std::convert::AsStr;
-use std::fs::Files;
-use std::io::{Read, Write};
-use std::net::Net;
-use std::random::RandomSource;
-use std::time::Clock;
 
-/// Runs what the arguments request. Returns the host and the exit status.
-fn run<
-    N: Net,
-    C: Clock,
-    G: RandomSource,
-    F: Files,
-    H: Host + Drop,
-    R: Read,
-    W: Write,
-    E: Write,
-    T: Write,
->(
-    system: &System<'_, N, C, G, F>,
-    host: H,
-    alloc: Global,
+/// Runs what the arguments request. Returns the exit status, and the host and the streams.
+fn run<E: Environment>(
+    system: &System<'_, E>,
+    outside: Outside<E>,
     invocation: &Invocation,
-    input: &mut R,
-    output: &mut W,
-    errors: &mut E,
-    reports: &mut T,
-) -> Ended<H>
-    ensures runs { Runs R.remaining W.contents (errors.new ≡ errors.old) (Receives E.contents errors.old errors.new) (H.calls host) (H.calls result.host)
-        (H.stopped result.host) input.old input.new output.old output.new invocation.now result.status }
+) -> Ended<E>
+    ensures runs { Runs E.Input.remaining E.Output.contents (result.outside.errors ≡ outside.errors)
+        (Receives E.Errors.contents outside.errors result.outside.errors) (E.Host.calls outside.host)
+        (E.Host.calls result.outside.host) (E.Host.stopped result.outside.host) outside.input result.outside.input
+        outside.output result.outside.output invocation.now result.status }
 {
-    let mut host = host;
+    let mut outside = outside;
     match invocation {
         Invocation::Replay(config, shown) => {
-            let status = replay(alloc, *config, *shown, input, output, errors);
-            Ended { host, status }
+            let status = replay(system, &mut outside, *config, *shown);
+            Ended { outside, status }
         }
-        Invocation::Serve(config, service) => serve(
-            &system.local,
-            host,
-            alloc,
-            *config,
-            service,
-            input,
-            output,
-            errors,
-            reports,
-        ),
-        Invocation::Live(config, service, draws, late) => live(
-            &system.local,
-            host,
-            alloc,
-            *config,
-            service,
-            *draws,
-            *late,
-            output,
-            errors,
-            reports,
-        ),
+        Invocation::Serve(config, service) => {
+            let draws = Draws::none();
+            let config = *config;
+            serve(
+                system,
+                outside,
+                Requested {
+                    config,
+                    service,
+                    draws,
+                },
+            )
+        }
+        Invocation::Live(config, service, draws, late) => {
+            let (config, draws) = (*config, *draws);
+            live(
+                system,
+                outside,
+                Requested {
+                    config,
+                    service,
+                    draws,
+                },
+                *late,
+            )
+        }
         Invocation::Check(gateway, source) => {
-            let net = system.net;
-            let status = check(net, system.local.clock, *gateway, *source, output, errors);
-            Ended { host, status }
+            let status = check(system, &mut outside, *gateway, *source);
+            Ended { outside, status }
         }
         Invocation::Heard(request) => {
             let status = heard(
-                &mut host,
-                system.local.files,
-                alloc,
+                &mut outside.host,
+                system.files,
+                system.alloc,
                 request,
-                input,
-                output,
-                errors,
+                &mut outside.input,
+                &mut outside.output,
+                &mut outside.errors,
             );
-            Ended { host, status }
+            Ended { outside, status }
         }
         Invocation::Watch(request) => {
             let status = watch(
-                &mut host,
-                system.local.files,
-                alloc,
+                &mut outside.host,
+                system.files,
+                system.alloc,
                 request,
-                input,
-                output,
-                errors,
+                &mut outside.input,
+                &mut outside.output,
+                &mut outside.errors,
             );
-            Ended { host, status }
+            Ended { outside, status }
         }
         Invocation::Audible(request) => {
             let status = audible(
-                &mut host,
-                system.local.files,
-                alloc,
+                &mut outside.host,
+                system.files,
+                system.alloc,
                 request,
-                input,
-                output,
-                errors,
+                &mut outside.input,
+                &mut outside.output,
+                &mut outside.errors,
             );
-            Ended { host, status }
+            Ended { outside, status }
         }
         Invocation::Verify(file) => {
-            let status = verify(&mut host, alloc, file, input, output, errors);
-            Ended { host, status }
+            let status = verify(system.alloc, &mut outside, file);
+            Ended { outside, status }
         }
         Invocation::Seal => {
-            let status = seal(alloc, input, output, errors);
-            Ended { host, status }
+            let status = seal(
+                system.alloc,
+                &mut outside.input,
+                &mut outside.output,
+                &mut outside.errors,
+            );
+            Ended { outside, status }
         }
     }
 }
@@ -143,50 +131,32 @@ fn run<
 /// the script doesn't say. For any question about who could be heard, 2 also means that the gateway never had the
 /// talker or the listener in the question. A message then names who is missing. For rules, 1 means that the script
 /// breaks a rule. For a check of seals, 1 means that the text was changed, and 2 that the text has no seals.
-pub fn program<
-    'a,
-    N: Net,
-    C: Clock,
-    G: RandomSource,
-    F: Files,
-    H: Host + Drop,
-    S: AsStr,
-    R: Read,
-    W: Write,
-    E: Write,
-    T: Write,
->(
-    system: &System<'_, N, C, G, F>,
-    host: H,
-    alloc: Global,
-    words: &'a [S],
-    input: &mut R,
-    output: &mut W,
-    errors: &mut E,
-    reports: &mut T,
-) -> Ended<H>
+pub fn program<E: Environment, S: AsStr>(
+    system: &System<'_, E>,
+    outside: Outside<E>,
+    words: &[S],
+) -> Ended<E>
     // The status says whether the program did what the arguments request and, if not, why.
     ensures ends { EndsWith
-        (Runs R.remaining W.contents (errors.new ≡ errors.old) (Receives E.contents errors.old errors.new) (H.calls host) (H.calls result.host)
-        (H.stopped result.host) input.old input.new output.old output.new)
+        (Runs E.Input.remaining E.Output.contents (result.outside.errors ≡ outside.errors)
+        (Receives E.Errors.contents outside.errors result.outside.errors) (E.Host.calls outside.host)
+        (E.Host.calls result.outside.host) (E.Host.stopped result.outside.host) outside.input result.outside.input
+        outside.output result.outside.output)
         (requested (map S.text words.now)) Status.Failed
-        ((input.new ≡ input.old) × (H.calls result.host ≡ H.calls host)) (errors.new ≡ errors.old) output.old output.new
-        (code_of result.status) }
+        ((result.outside.input ≡ outside.input) × (E.Host.calls result.outside.host ≡ E.Host.calls outside.host))
+        (result.outside.errors ≡ outside.errors) outside.output result.outside.output (code_of result.status) }
 {
-    match requested_run(alloc, words) {
-        Ok(invocation) => run(
-            system,
-            host,
-            alloc,
-            &invocation,
-            input,
-            output,
-            errors,
-            reports,
-        ),
+    let mut outside = outside;
+    match requested_run(system.alloc, words) {
+        Ok(invocation) => run(system, outside, &invocation),
         Err(error) => {
-            let status = report_error(&error, Status::Failed, output, errors);
-            Ended { host, status }
+            let status = report_error(
+                &error,
+                Status::Failed,
+                &mut outside.output,
+                &mut outside.errors,
+            );
+            Ended { outside, status }
         }
     }
 }

@@ -9,11 +9,11 @@ ghost use Rattle.mg_program.specs.Decisions.{HasDecided, knows};
 
 use crate::log_key::LogKey;
 use crate::receiving::{ALL_READY, SOCKETS, receive_reported};
-use crate::sending::send_in_time;
+use crate::sending::{count_cause, send_in_time};
 use mg_core::Peer;
 use mg_dates::DatedJournal;
-use mg_host::Sockets;
-use mg_journal::{AppendFault, Durability, Journal};
+use mg_host::{Environment, Journals, Sockets};
+use mg_journal::{AppendFault, Durability, FileJournal, Journal};
 use mg_ports::{FailureCauses, PortFault, Ports, Timing};
 use std::marker::PhantomData;
 use std::time::Clock;
@@ -22,7 +22,7 @@ use std::time::Clock;
 #[derive(Drop)]
 pub(crate) struct GatewayPorts<'a, H: Sockets, J: Journal, C: Clock, K: LogKey> {
     pub(crate) host: H,
-    journal: Option<DatedJournal<'a, J, C>>,
+    pub(crate) journal: Option<DatedJournal<'a, J, C>>,
     /// Whether the tick whose packets are being sent is on time.
     timing: Timing,
     /// The sockets at which a datagram may be waiting.
@@ -32,6 +32,15 @@ pub(crate) struct GatewayPorts<'a, H: Sockets, J: Journal, C: Clock, K: LogKey> 
     of: PhantomData<K>,
     ghost decided: { HasDecided K.calls (H.calls host) (knows timing ready false) },
 }
+
+/// The ports of a gateway in this environment.
+pub(crate) type PortsOf<'a, E, K> = GatewayPorts<
+    'a,
+    <E as Environment>::Host,
+    FileJournal<<<E as Environment>::Host as Journals>::File>,
+    <E as Environment>::Clock,
+    K,
+>;
 
 /// Appends lines to the journal, or fails if there is no journal.
 fn append<J: Journal, C: Clock>(
@@ -50,7 +59,7 @@ fn append<J: Journal, C: Clock>(
 }
 
 /// If `answer` is an error, counts it as a failure.
-fn count<T>(answer: &Result<T, PortFault>, failures: &mut u64)
+fn count<T, F>(answer: &Result<T, F>, failures: &mut u64)
     ensures fault { OnErr answer.now (IsCounted failures.old failures.new) }
 {
     if answer.is_err() {
@@ -98,16 +107,13 @@ impl<'a, H: Sockets, J: Journal, C: Clock, K: LogKey> Ports for GatewayPorts<'a,
     }
 
     fn send(&mut self, socket: usize, to: Peer, bytes: &[u8]) -> Result<(), PortFault> {
-        let sent = send_in_time(
-            &mut self.host,
-            self.timing,
-            socket,
-            to,
-            bytes,
-            &mut self.causes,
-        );
+        let sent = send_in_time(&mut self.host, self.timing, socket, to, bytes);
+        count_cause(&sent, &mut self.causes);
         count(&sent, &mut self.failures);
-        sent
+        match sent {
+            Ok(()) => Ok(()),
+            Err(_) => Err(PortFault),
+        }
     }
 
     fn begin_tick(&mut self, timing: Timing) {

@@ -12,107 +12,98 @@ ghost use Rattle.mg_serve.specs.Serve.{ClockCommands, Served, form_of};
 ghost use Rattle.mg_arguments.specs.Setup.{setup_of};
 ghost use Rattle.mg_arguments.specs.Title.{title_if};
 ghost use Rattle.mg_host.specs.declared.host_call.HostCall.{HostCall};
-ghost use Rattle.mg_host.specs.HostCalls.{Grows, IsLogged};
+ghost use Rattle.mg_host.specs.HostCalls.{Grows, IsLogged, port_calls};
 ghost use Rattle.mg_program.specs.Serve.{ByClock, Serves, ServesChosen, ServesOnPorts, binds_of};
 
 use crate::announcement::announce;
 use crate::ended::Ended;
-use crate::gateway_ports::GatewayPorts;
-use crate::local_system::LocalSystem;
+use crate::gateway_ports::{GatewayPorts, PortsOf};
 use crate::log_key::LogKey;
 use crate::metrics_file::MetricsFile;
 use crate::ready::{Ready, make_ready};
 use crate::status::status_after;
-use mg_arguments::{Draws, Service, title_of};
-use mg_clock::Watch;
-use mg_core::{Config, Core, RunFault};
-use mg_host::Host;
-use mg_journal::{Journal, JournalFile};
+use crate::timer::Timer;
+use mg_arguments::{Service, title_of};
+use mg_core::RunFault;
+use mg_host::{Clocks, Environment, Journals, Outside, System};
 use mg_monitor::{Both, Metrics, Reports};
 use mg_options::{Status, VERSION};
-use mg_ports::Ports;
-use mg_serve::Monitor;
-use mg_start::{Prepared, prepare};
-use std::alloc::{AllocError, Global};
-use std::fs::Files;
+use mg_start::{Gateway, Prepared, Requested, prepare};
+use std::alloc::AllocError;
 use std::io::{self, ErrorKind, Write};
 use std::marker::Brand;
-use std::random::RandomSource;
-use std::time::Clock;
+
+/// The monitor of a gateway that is driven by the system's clock: reports, and metrics if they are enabled.
+type LiveMonitor<'a, E> = Both<
+    Reports<'a, <E as Environment>::Reports>,
+    Metrics<
+        'a,
+        <E as Environment>::Clock,
+        MetricsFile<'a, <E as Environment>::Files, <E as Environment>::Errors>,
+    >,
+>;
 
 /// Runs a gateway on these ports, driven by a clock.
-fn live_on<P: Ports, K: Watch, W: Write, M: Monitor>(
-    alloc: Global,
-    config: Config,
-    core: Core,
-    reached: u32,
-    service: &Service,
-    ports: &mut P,
-    watch: &mut K,
-    late: u16,
-    output: &mut W,
-    monitor: &mut M,
+fn live_on<L: LogKey, E: Environment>(
+    gateway: Gateway<'_>,
+    ports: &mut PortsOf<'_, E, L>,
+    timer: &mut Timer<<E::Host as Clocks>::Watch>,
+    output: &mut E::Output,
+    monitor: &mut LiveMonitor<'_, E>,
 ) -> RunFault
-    requires sound { IsValidConfig config }
-    ensures session { (w : World) → StandsFor core.state w →
-        Served (setup_of config reached service.now) w (title_if service.now.records config)
-        (ClockCommands (form_of (title_if service.now.records config)) late
-        (clock_seen (K.readings watch.old) (K.waits watch.old)) (clock_seen (K.readings watch.new) (K.waits watch.new))
-        (K.Fails watch.new) (Err result))
-        (ports_seen (P.calls ports.old) (P.journal ports.old)) (ports_seen (P.calls ports.new) (P.journal ports.new))
-        (W.contents output.old) (W.contents output.new) (Err result) }
+    requires sound { IsValidConfig gateway.config }
+    ensures session { (w : World) → StandsFor gateway.entry.core.state w →
+        Served (setup_of gateway.entry.config gateway.entry.reached gateway.entry.service.now) w
+        (title_if gateway.entry.service.now.records gateway.entry.config)
+        (ClockCommands (form_of (title_if gateway.entry.service.now.records gateway.entry.config)) timer.old.late
+        (clock_seen (E.Host.Watch.readings timer.old.watch) (E.Host.Watch.waits timer.old.watch))
+        (clock_seen (E.Host.Watch.readings timer.new.watch) (E.Host.Watch.waits timer.new.watch))
+        (E.Host.Watch.Fails timer.new.watch) (Err result))
+        (ports_seen (port_calls (E.Host.calls ports.old.host)) (option_map_or (λ d. d) ports.old.journal no_journal))
+        (ports_seen (port_calls (E.Host.calls ports.new.host)) (option_map_or (λ d. d) ports.new.journal no_journal))
+        (E.Output.contents output.old) (E.Output.contents output.new) (Err result) }
     ensures started { result ≢ RunFault.BadConfig }
 {
+    let config = gateway.config;
+    let service = gateway.service;
     let title = title_of(&config);
     mg_serve::serve_by_clock(
-        alloc,
-        &service.setup(config, reached),
-        core,
+        gateway.alloc,
+        &service.setup(config, gateway.reached),
+        gateway.core,
         service.title(title.as_slice()),
         ports,
-        watch,
-        late,
+        &mut timer.watch,
+        timer.late,
         output,
         monitor,
     )
 }
 
 /// Runs a gateway on UDP ports, driven by the host's clock, which is stopped at the end.
-fn live_on_sockets<L: LogKey, H: Host + Drop, J: Journal + Drop, C: Clock, W: Write, M: Monitor>(
-    host: H,
-    alloc: Global,
-    ready: Ready<'_, J, C>,
-    service: &Service,
-    watch: H::Watch,
-    late: u16,
-    output: &mut W,
-    monitor: &mut M,
-) -> (H, RunFault)
-    requires sound { IsValidConfig ready.config }
-    requires begins { H.calls host ≡ L.calls }
-    requires unread { IsLogged (H.calls host) (H.Watch.readings watch) [] }
+fn live_on_sockets<L: LogKey, E: Environment>(
+    host: E::Host,
+    ready: Ready<'_, E>,
+    timer: Timer<<E::Host as Clocks>::Watch>,
+    output: &mut E::Output,
+    monitor: &mut LiveMonitor<'_, E>,
+) -> (E::Host, RunFault)
+    requires sound { IsValidConfig ready.gateway.config }
+    requires begins { E.Host.calls host ≡ L.calls }
+    requires unread { IsLogged (E.Host.calls host) (E.Host.Watch.readings timer.watch) [] }
     ensures value { (text : Option (List ℕ)) (bound : Option (List HostCall)) →
-        CanStart service.now.journal text service.now.fence_from ready.entry.config ready.entry.core.state
-        ready.entry.reached
-        (option_map_or (λ j. j) ready.entry.journal no_journal) bound (H.calls host) →
-        ServesOnPorts (ByClock late (H.stopped result.0)) ready.entry.config service.now
-        (W.contents output.old) (W.contents output.new) text bound (H.calls result.0) (Err result.1) }
+        CanStart ready.entry.gateway.service.now.journal text ready.entry.gateway.service.now.fence_from
+        ready.entry.gateway.config ready.entry.gateway.core.state ready.entry.gateway.reached
+        (option_map_or (λ j. j) ready.entry.journal no_journal) bound (E.Host.calls host) →
+        ServesOnPorts (ByClock timer.late (E.Host.stopped result.0)) ready.entry.gateway.config
+        ready.entry.gateway.service.now (E.Output.contents output.old)
+        (E.Output.contents output.new) text bound (E.Host.calls result.0) (Err result.1) }
 {
-    let mut watch = watch;
+    let mut timer = timer;
     let mut ports = GatewayPorts::<_, _, _, L>::new(host, ready.journal);
-    let fault = live_on(
-        alloc,
-        ready.config,
-        ready.core,
-        ready.reached,
-        service,
-        &mut ports,
-        &mut watch,
-        late,
-        output,
-        monitor,
-    );
+    let fault = live_on::<L, E>(ready.gateway, &mut ports, &mut timer, output, monitor);
     let mut host = ports.host;
+    let Timer { watch, .. } = timer;
     host.stop(watch);
     (host, fault)
 }
@@ -123,159 +114,144 @@ fn live_on_sockets<L: LogKey, H: Host + Drop, J: Journal + Drop, C: Clock, W: Wr
 /// The gateway is new, perhaps with numbers drawn at random, or it resumes from the journal.
 ///
 /// After a delay, all missed polls and ticks are executed at once. If a tick is more than `late` ticks late, its
-/// packets are not sent. So callers hear a gap, and timestamps stay in step with the clock. `reports` receives the
-/// number of packets that weren't sent, and the periodic reports if they are enabled.
-pub fn live<C: Clock, G: RandomSource, F: Files, H: Host + Drop, W: Write, E: Write, T: Write>(
-    system: &LocalSystem<'_, C, G, F>,
-    host: H,
-    alloc: Global,
-    config: Config,
-    service: &Service,
-    draws: Draws,
+/// packets are not sent. So callers hear a gap, and timestamps stay in step with the clock. `reports` receives lines
+/// about the start, and then the lines that [`Reports`] prints.
+pub fn live<E: Environment>(
+    system: &System<'_, E>,
+    outside: Outside<E>,
+    requested: Requested<'_>,
     late: u16,
-    output: &mut W,
-    errors: &mut E,
-    reports: &mut T,
-) -> Ended<H>
-    ensures value { Serves (ByClock late (H.stopped result.host)) (output.new ≡ output.old) config service.now draws
-        (W.contents output.old) (W.contents output.new) (H.calls host) (H.calls result.host) result.status }
+) -> Ended<E>
+    ensures value { Serves (ByClock late (E.Host.stopped result.outside.host)) (result.outside.output ≡ outside.output)
+        requested.entry.config requested.entry.service.now requested.entry.draws (E.Output.contents outside.output)
+        (E.Output.contents result.outside.output) (E.Host.calls outside.host) (E.Host.calls result.outside.host)
+        result.status }
+    ensures unread { result.outside.input ≡ outside.input }
 {
-    let mut host = host;
-    match prepare(
-        &mut host,
-        system.random,
-        alloc,
-        config,
-        service,
-        draws,
-        errors,
-    ) {
-        Ok(prepared) => live_prepared(
-            system, host, alloc, prepared, service, late, output, errors, reports,
-        ),
-        Err(status) => Ended { host, status },
+    let mut outside = outside;
+    match prepare(system, &mut outside.host, requested, &mut outside.errors) {
+        Ok(prepared) => live_prepared(system, outside, prepared, requested.service, late),
+        Err(status) => Ended { outside, status },
     }
 }
 
 /// Runs a prepared gateway on UDP ports, driven by the system's clock.
-fn live_prepared<
-    C: Clock,
-    G: RandomSource,
-    F: Files,
-    H: Host + Drop,
-    J: JournalFile + Drop,
-    W: Write,
-    E: Write,
-    T: Write,
->(
-    system: &LocalSystem<'_, C, G, F>,
-    host: H,
-    alloc: Global,
-    prepared: Prepared<J>,
+fn live_prepared<E: Environment>(
+    system: &System<'_, E>,
+    outside: Outside<E>,
+    prepared: Prepared<<E::Host as Journals>::File>,
     service: &Service,
     late: u16,
-    output: &mut W,
-    errors: &mut E,
-    reports: &mut T,
-) -> Ended<H>
+) -> Ended<E>
     requires resumed { CanResume (option_map_or (λ j. text_in j.opening.file) prepared.journal (Some []))
         prepared.config prepared.core.state prepared.reached }
     requires found { IsSome service.now.journal → IsSome prepared.journal }
     requires times { IfSome prepared.journal (λ j. KeepsTimes j.timeline (text_in j.opening.file)) }
-    ensures value { ServesChosen (ByClock late (H.stopped result.host)) (output.new ≡ output.old) prepared.config
-        service.now (W.contents output.old) (W.contents output.new)
-        (option_map_or (λ j. text_in j.opening.file) prepared.journal (Some [])) (H.calls host) (H.calls result.host)
-        result.status }
+    ensures value { ServesChosen (ByClock late (E.Host.stopped result.outside.host))
+        (result.outside.output ≡ outside.output) prepared.config
+        service.now (E.Output.contents outside.output) (E.Output.contents result.outside.output)
+        (option_map_or (λ j. text_in j.opening.file) prepared.journal (Some [])) (E.Host.calls outside.host)
+        (E.Host.calls result.outside.host) result.status }
+    ensures unread { result.outside.input ≡ outside.input }
 {
-    let mut host = host;
-    prepared.tell(service, reports);
-    match make_ready(system, &mut host, alloc, prepared, service, errors) {
-        Ok(ready) => live_ready(
-            system, host, alloc, ready, service, late, output, errors, reports,
-        ),
-        Err(status) => Ended { host, status },
+    let mut outside = outside;
+    prepared.tell(service, &mut outside.reports);
+    match make_ready(
+        system,
+        &mut outside.host,
+        prepared,
+        service,
+        &mut outside.errors,
+    ) {
+        Ok(ready) => live_ready(system, outside, ready, late),
+        Err(status) => Ended { outside, status },
     }
 }
 
 /// Runs a gateway whose ports are bound, driven by the system's clock.
-fn live_ready<
-    C: Clock,
-    G: RandomSource,
-    F: Files,
-    H: Host + Drop,
-    J: Journal + Drop,
-    W: Write,
-    E: Write,
-    T: Write,
->(
-    system: &LocalSystem<'_, C, G, F>,
-    host: H,
-    alloc: Global,
-    ready: Ready<'_, J, C>,
-    service: &Service,
+fn live_ready<E: Environment>(
+    system: &System<'_, E>,
+    outside: Outside<E>,
+    ready: Ready<'_, E>,
     late: u16,
-    output: &mut W,
-    errors: &mut E,
-    reports: &mut T,
-) -> Ended<H>
-    requires sound { IsValidConfig ready.config }
+) -> Ended<E>
+    requires sound { IsValidConfig ready.gateway.config }
     ensures value { (text : Option (List ℕ)) (found bound : Option (List HostCall)) →
-        CanStart service.now.journal text service.now.fence_from ready.entry.config ready.entry.core.state
-        ready.entry.reached
-        (option_map_or (λ j. j) ready.entry.journal no_journal) bound (H.calls host) →
-        Grows found bound (binds_of ready.entry.config service.now.bind_addresses) →
-        ServesChosen (ByClock late (H.stopped result.host)) (output.new ≡ output.old) ready.entry.config
-        service.now (W.contents output.old) (W.contents output.new) text found (H.calls result.host) result.status }
+        CanStart ready.entry.gateway.service.now.journal text ready.entry.gateway.service.now.fence_from
+        ready.entry.gateway.config ready.entry.gateway.core.state ready.entry.gateway.reached
+        (option_map_or (λ j. j) ready.entry.journal no_journal) bound (E.Host.calls outside.host) →
+        Grows found bound (binds_of ready.entry.gateway.config ready.entry.gateway.service.now.bind_addresses) →
+        ServesChosen (ByClock late (E.Host.stopped result.outside.host)) (result.outside.output ≡ outside.output)
+        ready.entry.gateway.config ready.entry.gateway.service.now (E.Output.contents outside.output)
+        (E.Output.contents result.outside.output) text found (E.Host.calls result.outside.host) result.status }
+    ensures unread { result.outside.input ≡ outside.input }
 {
-    let config = ready.config;
-    let mut host = host;
-    let watch = match host.watch() {
+    let config = ready.gateway.config;
+    let service = ready.gateway.service;
+    let mut outside = outside;
+    let watch = match outside.host.watch() {
         Ok(watch) => watch,
         Err(error) => {
-            let status = watch_fault(&error, errors);
-            return Ended { host, status };
+            let status = watch_fault(&error, &mut outside.errors);
+            return Ended { outside, status };
         }
     };
-    announce(&config, service, ready.reached, reports);
-    let (host, fault) = match monitor(system.files, system.clock, alloc, service, errors, reports) {
-        Ok(mut monitor) => live_on_sockets::<Brand, _, _, _, _, _>(
-            host,
-            alloc,
-            ready,
-            service,
-            watch,
-            late,
-            output,
-            &mut monitor,
-        ),
+    announce(
+        &config,
+        service,
+        ready.gateway.reached,
+        &mut outside.reports,
+    );
+    let Outside {
+        host,
+        input,
+        mut output,
+        mut errors,
+        mut reports,
+    } = outside;
+    let timer = Timer { watch, late };
+    let (host, fault) = match monitor(system, service, &mut errors, &mut reports) {
+        Ok(mut monitor) => {
+            live_on_sockets::<Brand, E>(host, ready, timer, &mut output, &mut monitor)
+        }
         Err(AllocError) => {
             let _ = writeln!(errors, "{}", RunFault::NoMemory);
-            return Ended {
+            let outside = Outside {
                 host,
+                input,
+                output,
+                errors,
+                reports,
+            };
+            return Ended {
+                outside,
                 status: Status::NoMemory,
             };
         }
     };
-    Ended {
+    let status = status_after(&Err(fault), &config, &mut errors);
+    let outside = Outside {
         host,
-        status: status_after(&Err(fault), &config, errors),
-    }
+        input,
+        output,
+        errors,
+        reports,
+    };
+    Ended { outside, status }
 }
 
 /// Creates the monitor of a gateway: reports, and metrics if they are enabled.
-fn monitor<'a, C: Clock, F: Files, E: Write, T: Write>(
-    files: &'a F,
-    clock: &'a C,
-    alloc: Global,
+fn monitor<'a, 's: 'a, E: Environment>(
+    system: &System<'s, E>,
     service: &'a Service,
-    errors: &'a mut E,
-    reports: &'a mut T,
-) -> Result<Both<Reports<'a, T>, Metrics<'a, C, MetricsFile<'a, F, E>>>, AllocError> {
-    let first = Reports::new(alloc, service.report, reports)?;
+    errors: &'a mut E::Errors,
+    reports: &'a mut E::Reports,
+) -> Result<LiveMonitor<'a, E>, AllocError> {
+    let first = Reports::new(system.alloc, service.report, reports)?;
     let second = match &service.metrics {
         Some(path) => {
-            let file = MetricsFile::new(files, path, errors);
-            Some(Metrics::start_now(alloc, clock, file, VERSION)?)
+            let file = MetricsFile::new(system.files, path, errors);
+            Some(Metrics::start_now(system.alloc, system.clock, file, VERSION)?)
         }
         None => None,
     };

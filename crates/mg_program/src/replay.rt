@@ -3,24 +3,28 @@ ghost use Rattle.mg_program.specs.Replay.{Replays};
 
 use crate::status::status_after;
 use mg_core::{Config, Shown, run};
+use mg_host::{Environment, Outside, System};
 use mg_options::Status;
-use std::alloc::Global;
-use std::io::{Read, Write};
 
-/// Runs the script in the input on a new gateway, and writes a line for each answer and each packet. A fault is
-/// reported to `errors`.
-pub fn replay<R: Read, W: Write, E: Write>(
-    alloc: Global,
+/// Runs the script in the input on a new gateway, and writes a line for each answer and each packet, and comments about
+/// changes if `shown` asks for them. A fault is reported to `errors`.
+pub fn replay<E: Environment>(
+    system: &System<'_, E>,
+    outside: &mut Outside<E>,
     config: Config,
     shown: Shown,
-    input: &mut R,
-    output: &mut W,
-    errors: &mut E,
 ) -> Status
-    ensures value { Replays config shown (R.remaining input.old) (R.remaining input.new) (W.contents output.old)
-        (W.contents output.new) result }
-    ensures quiet { result ≡ Status.Done → errors.new ≡ errors.old }
+    ensures value { Replays config shown (E.Input.remaining outside.old.input) (E.Input.remaining outside.new.input)
+        (E.Output.contents outside.old.output) (E.Output.contents outside.new.output) result }
+    ensures quiet { result ≡ Status.Done → outside.new.errors ≡ outside.old.errors }
+    ensures host { outside.new.host ≡ outside.old.host }
 {
-    let outcome = run(alloc, config, shown, input, output);
-    status_after(&outcome, &config, errors)
+    let outcome = run(
+        system.alloc,
+        config,
+        shown,
+        &mut outside.input,
+        &mut outside.output,
+    );
+    status_after(&outcome, &config, &mut outside.errors)
 }

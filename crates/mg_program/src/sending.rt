@@ -4,6 +4,7 @@ ghost use Rattle.mg_host.specs.declared.host_call.HostCall.TheVariants.{NotSent,
 ghost use Rattle.mg_program.specs.Decisions.{IsUnusable, MayCall, knows};
 ghost use Rattle.mg_program.specs.aids.Doing.{DoesCalls};
 
+use crate::send_fault::SendFault;
 use mg_arguments::is_multicast;
 use mg_core::Peer;
 use mg_host::{Sockets, Unsent};
@@ -36,11 +37,13 @@ fn unsent_cause(timing: Timing, socket: usize, to: Peer) -> Option<Unsent>
     None
 }
 
-/// Counts a datagram that isn't sent, by cause.
-fn count_unsent(cause: Unsent, causes: &mut FailureCauses) {
-    match cause {
-        Unsent::Late => causes.late = causes.late.saturating_add(1),
-        Unsent::Held => causes.held = causes.held.saturating_add(1),
+/// If a datagram wasn't sent, counts the failure by its cause.
+pub(crate) fn count_cause(sent: &Result<(), SendFault>, causes: &mut FailureCauses) {
+    match sent {
+        Ok(()) => {}
+        Err(SendFault::Unsent(Unsent::Late)) => causes.late = causes.late.saturating_add(1),
+        Err(SendFault::Unsent(Unsent::Held)) => causes.held = causes.held.saturating_add(1),
+        Err(SendFault::Refused) => causes.refused = causes.refused.saturating_add(1),
     }
 }
 
@@ -52,20 +55,17 @@ pub(crate) fn send_in_time<H: Sockets>(
     socket: usize,
     to: Peer,
     bytes: &[u8],
-    causes: &mut FailureCauses,
-) -> Result<(), PortFault>
+) -> Result<(), SendFault>
     ensures done { (ready : List Bool) →
         DoesCalls (H.calls host.old) (H.calls host.new) (Send socket to bytes.now ∷ [])
         (knows timing ready false) (knows timing ready false) }
 {
     if let Some(cause) = unsent_cause(timing, socket, to) {
         host.log_unsent(socket, to, bytes, cause);
-        count_unsent(cause, causes);
-        return Err(PortFault);
+        return Err(SendFault::Unsent(cause));
     }
-    let sent = host.send(socket, to, bytes);
-    if sent.is_err() {
-        causes.refused = causes.refused.saturating_add(1);
+    match host.send(socket, to, bytes) {
+        Ok(()) => Ok(()),
+        Err(PortFault) => Err(SendFault::Refused),
     }
-    sent
 }

@@ -3,7 +3,6 @@ ghost use Rattle.std.specs.Option.{option_map_or};
 ghost use Rattle.mg_engine.specs.Config.{IsValidConfig};
 ghost use Rattle.mg_journal.specs.Journal.{no_journal};
 ghost use Rattle.mg_journal.specs.aids.Opened.{text_in};
-ghost use Rattle.mg_arguments.specs.Draws.{no_draws};
 ghost use Rattle.mg_start.specs.aids.Starting.{KeepsTimes, CanResume, CanStart};
 ghost use Rattle.mg_core.specs.World.{World};
 ghost use Rattle.mg_core.specs.aids.Stands.{StandsFor};
@@ -13,57 +12,50 @@ ghost use Rattle.mg_arguments.specs.Setup.{setup_of};
 ghost use Rattle.mg_arguments.specs.Title.{title_if};
 ghost use Rattle.mg_start.specs.Start.{FailsToStart};
 ghost use Rattle.mg_host.specs.declared.host_call.HostCall.{HostCall};
-ghost use Rattle.mg_host.specs.HostCalls.{Grows};
+ghost use Rattle.mg_host.specs.HostCalls.{Grows, port_calls};
 ghost use Rattle.mg_program.specs.Serve.{ByLines, Serves, ServesChosen, ServesOnPorts, binds_of};
 
 use crate::ended::Ended;
-use crate::gateway_ports::GatewayPorts;
-use crate::local_system::LocalSystem;
+use crate::gateway_ports::{GatewayPorts, PortsOf};
 use crate::log_key::LogKey;
 use crate::ready::{Ready, make_ready};
 use crate::status::status_after;
-use mg_arguments::{Draws, Service, title_of};
-use mg_core::{Config, Core, Counts, RunFault};
-use mg_host::{Dates, Host, Sockets};
-use mg_journal::{Journal, JournalFile};
+use mg_arguments::{Service, title_of};
+use mg_core::{Counts, RunFault};
+use mg_host::{Environment, Journals, Outside, System};
 use mg_monitor::Reports;
 use mg_options::Status;
-use mg_ports::Ports;
-use mg_serve::Monitor;
-use mg_start::{Prepared, prepare};
-use std::alloc::Global;
-use std::fs::Files;
-use std::io::{Read, Write};
+use mg_start::{Gateway, Prepared, Requested, prepare};
+use std::alloc::AllocError;
+use std::io::Write;
 use std::marker::Brand;
-use std::random::RandomSource;
-use std::time::Clock;
 
 /// Runs a gateway on these ports, driven by input lines.
-fn serve_on<P: Ports, R: Read, W: Write, M: Monitor>(
-    alloc: Global,
-    config: Config,
-    core: Core,
-    reached: u32,
-    service: &Service,
-    ports: &mut P,
-    input: &mut R,
-    output: &mut W,
-    monitor: &mut M,
+fn serve_on<L: LogKey, E: Environment>(
+    gateway: Gateway<'_>,
+    ports: &mut PortsOf<'_, E, L>,
+    input: &mut E::Input,
+    output: &mut E::Output,
+    monitor: &mut Reports<'_, E::Reports>,
 ) -> Result<Counts, RunFault>
-    requires sound { IsValidConfig config }
-    ensures session { (w : World) → StandsFor core.state w →
-        Served (setup_of config reached service.now) w (title_if service.now.records config)
-        (ReadCommands (form_of (title_if service.now.records config)) (R.remaining input.old) (R.remaining input.new)
-        result)
-        (ports_seen (P.calls ports.old) (P.journal ports.old)) (ports_seen (P.calls ports.new) (P.journal ports.new))
-        (W.contents output.old) (W.contents output.new) result }
+    requires sound { IsValidConfig gateway.config }
+    ensures session { (w : World) → StandsFor gateway.entry.core.state w →
+        Served (setup_of gateway.entry.config gateway.entry.reached gateway.entry.service.now) w
+        (title_if gateway.entry.service.now.records gateway.entry.config)
+        (ReadCommands (form_of (title_if gateway.entry.service.now.records gateway.entry.config))
+        (E.Input.remaining input.old) (E.Input.remaining input.new) result)
+        (ports_seen (port_calls (E.Host.calls ports.old.host)) (option_map_or (λ d. d) ports.old.journal no_journal))
+        (ports_seen (port_calls (E.Host.calls ports.new.host)) (option_map_or (λ d. d) ports.new.journal no_journal))
+        (E.Output.contents output.old) (E.Output.contents output.new) result }
     ensures started { result ≢ Err RunFault.BadConfig }
 {
+    let config = gateway.config;
+    let service = gateway.service;
     let title = title_of(&config);
     mg_serve::serve(
-        alloc,
-        &service.setup(config, reached),
-        core,
+        gateway.alloc,
+        &service.setup(config, gateway.reached),
+        gateway.core,
         service.title(title.as_slice()),
         ports,
         input,
@@ -73,44 +65,25 @@ fn serve_on<P: Ports, R: Read, W: Write, M: Monitor>(
 }
 
 /// Runs a gateway on UDP ports, driven by input lines.
-fn serve_on_sockets<
-    L: LogKey,
-    H: Sockets + Drop,
-    J: Journal + Drop,
-    C: Clock,
-    R: Read,
-    W: Write,
-    M: Monitor,
->(
-    host: H,
-    alloc: Global,
-    ready: Ready<'_, J, C>,
-    service: &Service,
-    input: &mut R,
-    output: &mut W,
-    monitor: &mut M,
-) -> (H, Result<Counts, RunFault>)
-    requires sound { IsValidConfig ready.config }
-    requires begins { H.calls host ≡ L.calls }
+fn serve_on_sockets<L: LogKey, E: Environment>(
+    host: E::Host,
+    ready: Ready<'_, E>,
+    input: &mut E::Input,
+    output: &mut E::Output,
+    monitor: &mut Reports<'_, E::Reports>,
+) -> (E::Host, Result<Counts, RunFault>)
+    requires sound { IsValidConfig ready.gateway.config }
+    requires begins { E.Host.calls host ≡ L.calls }
     ensures value { (text : Option (List ℕ)) (bound : Option (List HostCall)) →
-        CanStart service.now.journal text service.now.fence_from ready.entry.config ready.entry.core.state
-        ready.entry.reached
-        (option_map_or (λ j. j) ready.entry.journal no_journal) bound (H.calls host) →
-        ServesOnPorts (ByLines (R.remaining input.old) (R.remaining input.new)) ready.entry.config service.now
-        (W.contents output.old) (W.contents output.new) text bound (H.calls result.0) result.1 }
+        CanStart ready.entry.gateway.service.now.journal text ready.entry.gateway.service.now.fence_from
+        ready.entry.gateway.config ready.entry.gateway.core.state ready.entry.gateway.reached
+        (option_map_or (λ j. j) ready.entry.journal no_journal) bound (E.Host.calls host) →
+        ServesOnPorts (ByLines (E.Input.remaining input.old) (E.Input.remaining input.new))
+        ready.entry.gateway.config ready.entry.gateway.service.now (E.Output.contents output.old)
+        (E.Output.contents output.new) text bound (E.Host.calls result.0) result.1 }
 {
     let mut ports = GatewayPorts::<_, _, _, L>::new(host, ready.journal);
-    let outcome = serve_on(
-        alloc,
-        ready.config,
-        ready.core,
-        ready.reached,
-        service,
-        &mut ports,
-        input,
-        output,
-        monitor,
-    );
+    let outcome = serve_on::<L, E>(ready.gateway, &mut ports, input, output, monitor);
     (ports.host, outcome)
 }
 
@@ -120,138 +93,110 @@ fn serve_on_sockets<
 ///
 /// An invalid configuration is reported before a port is bound. A port that can't be bound is reported before a line is
 /// read, and before anything is appended to the journal.
-pub fn serve<
-    C: Clock,
-    G: RandomSource,
-    F: Files,
-    H: Host + Drop,
-    R: Read,
-    W: Write,
-    E: Write,
-    T: Write,
->(
-    system: &LocalSystem<'_, C, G, F>,
-    host: H,
-    alloc: Global,
-    config: Config,
-    service: &Service,
-    input: &mut R,
-    output: &mut W,
-    errors: &mut E,
-    reports: &mut T,
-) -> Ended<H>
-    ensures value { Serves (ByLines (R.remaining input.old) (R.remaining input.new))
-        ((input.new ≡ input.old) × (output.new ≡ output.old)) config service.now no_draws
-        (W.contents output.old) (W.contents output.new) (H.calls host) (H.calls result.host) result.status }
-    ensures quiet { result.status ≡ Status.Done → errors.new ≡ errors.old }
+pub fn serve<E: Environment>(
+    system: &System<'_, E>,
+    outside: Outside<E>,
+    requested: Requested<'_>,
+) -> Ended<E>
+    ensures value { Serves (ByLines (E.Input.remaining outside.input) (E.Input.remaining result.outside.input))
+        ((result.outside.input ≡ outside.input) × (result.outside.output ≡ outside.output)) requested.entry.config
+        requested.entry.service.now requested.entry.draws (E.Output.contents outside.output)
+        (E.Output.contents result.outside.output) (E.Host.calls outside.host) (E.Host.calls result.outside.host)
+        result.status }
+    ensures quiet { result.status ≡ Status.Done → result.outside.errors ≡ outside.errors }
 {
-    let mut host = host;
-    match prepare(
-        &mut host,
-        system.random,
-        alloc,
-        config,
-        service,
-        Draws::none(),
-        errors,
-    ) {
-        Ok(prepared) => serve_prepared(
-            system, host, alloc, prepared, service, input, output, errors, reports,
-        ),
-        Err(status) => Ended { host, status },
+    let mut outside = outside;
+    match prepare(system, &mut outside.host, requested, &mut outside.errors) {
+        Ok(prepared) => serve_prepared(system, outside, prepared, requested.service),
+        Err(status) => Ended { outside, status },
     }
 }
 
 /// Runs a prepared gateway on UDP ports, driven by input lines.
-fn serve_prepared<
-    C: Clock,
-    G: RandomSource,
-    F: Files,
-    H: Sockets + Dates + Drop,
-    J: JournalFile + Drop,
-    R: Read,
-    W: Write,
-    E: Write,
-    T: Write,
->(
-    system: &LocalSystem<'_, C, G, F>,
-    host: H,
-    alloc: Global,
-    prepared: Prepared<J>,
+fn serve_prepared<E: Environment>(
+    system: &System<'_, E>,
+    outside: Outside<E>,
+    prepared: Prepared<<E::Host as Journals>::File>,
     service: &Service,
-    input: &mut R,
-    output: &mut W,
-    errors: &mut E,
-    reports: &mut T,
-) -> Ended<H>
+) -> Ended<E>
     requires resumed { CanResume (option_map_or (λ j. text_in j.opening.file) prepared.journal (Some []))
         prepared.config prepared.core.state prepared.reached }
     requires found { IsSome service.now.journal → IsSome prepared.journal }
     requires times { IfSome prepared.journal (λ j. KeepsTimes j.timeline (text_in j.opening.file)) }
-    ensures value { ServesChosen (ByLines (R.remaining input.old) (R.remaining input.new))
-        ((input.new ≡ input.old) × (output.new ≡ output.old)) prepared.config service.now
-        (W.contents output.old) (W.contents output.new)
-        (option_map_or (λ j. text_in j.opening.file) prepared.journal (Some [])) (H.calls host) (H.calls result.host)
-        result.status }
-    ensures quiet { result.status ≡ Status.Done → errors.new ≡ errors.old }
+    ensures value { ServesChosen (ByLines (E.Input.remaining outside.input) (E.Input.remaining result.outside.input))
+        ((result.outside.input ≡ outside.input) × (result.outside.output ≡ outside.output)) prepared.config service.now
+        (E.Output.contents outside.output) (E.Output.contents result.outside.output)
+        (option_map_or (λ j. text_in j.opening.file) prepared.journal (Some [])) (E.Host.calls outside.host)
+        (E.Host.calls result.outside.host) result.status }
+    ensures quiet { result.status ≡ Status.Done → result.outside.errors ≡ outside.errors }
 {
-    let mut host = host;
-    prepared.tell(service, reports);
-    match make_ready(system, &mut host, alloc, prepared, service, errors) {
-        Ok(ready) => serve_ready(host, alloc, ready, service, input, output, errors, reports),
-        Err(status) => Ended { host, status },
+    let mut outside = outside;
+    prepared.tell(service, &mut outside.reports);
+    match make_ready(
+        system,
+        &mut outside.host,
+        prepared,
+        service,
+        &mut outside.errors,
+    ) {
+        Ok(ready) => serve_ready(outside, ready),
+        Err(status) => Ended { outside, status },
     }
 }
 
 /// Runs a gateway whose ports are bound, driven by input lines.
-fn serve_ready<
-    H: Sockets + Drop,
-    J: Journal + Drop,
-    C: Clock,
-    R: Read,
-    W: Write,
-    E: Write,
-    T: Write,
->(
-    host: H,
-    alloc: Global,
-    ready: Ready<'_, J, C>,
-    service: &Service,
-    input: &mut R,
-    output: &mut W,
-    errors: &mut E,
-    reports: &mut T,
-) -> Ended<H>
-    requires sound { IsValidConfig ready.config }
+fn serve_ready<E: Environment>(outside: Outside<E>, ready: Ready<'_, E>) -> Ended<E>
+    requires sound { IsValidConfig ready.gateway.config }
     ensures value { (text : Option (List ℕ)) (found bound : Option (List HostCall)) →
-        CanStart service.now.journal text service.now.fence_from ready.entry.config ready.entry.core.state
-        ready.entry.reached
-        (option_map_or (λ j. j) ready.entry.journal no_journal) bound (H.calls host) →
-        Grows found bound (binds_of ready.entry.config service.now.bind_addresses) →
-        ServesChosen (ByLines (R.remaining input.old) (R.remaining input.new))
-        ((input.new ≡ input.old) × (output.new ≡ output.old)) ready.entry.config service.now
-        (W.contents output.old) (W.contents output.new) text found (H.calls result.host) result.status }
-    ensures quiet { result.status ≡ Status.Done → errors.new ≡ errors.old }
+        CanStart ready.entry.gateway.service.now.journal text ready.entry.gateway.service.now.fence_from
+        ready.entry.gateway.config ready.entry.gateway.core.state ready.entry.gateway.reached
+        (option_map_or (λ j. j) ready.entry.journal no_journal) bound (E.Host.calls outside.host) →
+        Grows found bound (binds_of ready.entry.gateway.config ready.entry.gateway.service.now.bind_addresses) →
+        ServesChosen (ByLines (E.Input.remaining outside.input) (E.Input.remaining result.outside.input))
+        ((result.outside.input ≡ outside.input) × (result.outside.output ≡ outside.output))
+        ready.entry.gateway.config ready.entry.gateway.service.now (E.Output.contents outside.output)
+        (E.Output.contents result.outside.output) text found (E.Host.calls result.outside.host) result.status }
+    ensures quiet { result.status ≡ Status.Done → result.outside.errors ≡ outside.errors }
 {
-    let config = ready.config;
-    let Ok(mut monitor) = Reports::new(alloc, service.report, reports) else {
-        let _ = writeln!(errors, "{}", RunFault::NoMemory);
-        return Ended {
-            host,
-            status: Status::NoMemory,
-        };
-    };
-    let (host, outcome) = serve_on_sockets::<Brand, _, _, _, _, _, _>(
+    let gateway = &ready.gateway;
+    let config = gateway.config;
+    let Outside {
         host,
-        alloc,
-        ready,
-        service,
+        mut input,
+        mut output,
+        mut errors,
+        mut reports,
+    } = outside;
+    let (host, outcome) = match Reports::new(gateway.alloc, gateway.service.report, &mut reports) {
+        Ok(mut monitor) => serve_on_sockets::<Brand, E>(
+            host,
+            ready,
+            &mut input,
+            &mut output,
+            &mut monitor,
+        ),
+        Err(AllocError) => {
+            let _ = writeln!(errors, "{}", RunFault::NoMemory);
+            let outside = Outside {
+                host,
+                input,
+                output,
+                errors,
+                reports,
+            };
+            return Ended {
+                outside,
+                status: Status::NoMemory,
+            };
+        }
+    };
+    let status = status_after(&outcome, &config, &mut errors);
+    let outside = Outside {
+        host,
         input,
         output,
-        &mut monitor,
-    );
-    Ended {
-        host,
-        status: status_after(&outcome, &config, errors),
-    }
+        errors,
+        reports,
+    };
+    Ended { outside, status }
 }

@@ -3,18 +3,16 @@ ghost use Rattle.mg_clock.specs.Ticks.{clock_seen};
 ghost use Rattle.mg_engine.specs.Config.{IsValidConfig};
 ghost use Rattle.mg_ports.specs.Journaled.{ports_seen};
 ghost use Rattle.mg_serve.specs.aids.Driving.{EndsByFault, RanByClock, StepTaken};
-ghost use Rattle.mg_serve.specs.aids.Outside.{LeadsByTrace, new_journal, outside};
+ghost use Rattle.mg_serve.specs.aids.Outside.{LeadsByTrace, outside};
 
 use crate::command::Command;
-use crate::form::Form;
 use crate::monitor::Monitor;
 use crate::server::Server;
 use crate::setup::Setup;
 use mg_clock::{Step, TickSchedule, Watch};
-use mg_core::{Core, DATAGRAM_LIMIT, RunFault};
+use mg_core::{DATAGRAM_LIMIT, RunFault};
 use mg_lines::WriteFailed;
 use mg_ports::Ports;
-use std::alloc::{AllocError, Global};
 use std::io::Write;
 
 /// Drives a server with a clock: a poll and a tick every 20 ms, and polls when messages arrive in between, up to 20
@@ -28,31 +26,19 @@ pub struct ClockDriver<'a, M: Monitor> {
 impl<'a, M: Monitor> ClockDriver<'a, M> {
     /// Creates a driver for a server, before the first tick. If a tick is more than `allowed` ticks late, its packets
     /// are not sent.
-    pub fn new(
-        alloc: Global,
-        core: Core,
-        form: Form,
-        setup: &Setup<'_>,
-        allowed: u16,
-        monitor: &'a mut M,
-    ) -> Result<Self, AllocError>
-        ensures core { IfOk result (λ driver. driver.server.core ≡ core) }
-        ensures printer { IfOk result (λ driver.
-            driver.server.printer ≡ record { form = form; has_failed = false }) }
-        ensures journal { IfOk result (λ driver. driver.server.journal ≡ new_journal setup.now) }
-        ensures schedule { IfOk result (λ driver.
-            driver.schedule ≡ record { ticks = 0; allowed = allowed; messages = 0 }) }
+    pub fn new(server: Server<'a, M>, allowed: u16) -> Self
+        ensures server { result.server ≡ server.entry }
+        ensures schedule { result.schedule ≡ record { ticks = 0; allowed = allowed; messages = 0 } }
     {
-        Ok(ClockDriver {
-            server: Server::new(alloc, core, form, setup, monitor)?,
+        ClockDriver {
+            server,
             schedule: TickSchedule::new(allowed),
-        })
+        }
     }
 
     /// Executes a step of the clock: a poll, and then the tick if one begins.
     fn take_step<P: Ports, W: Write>(
         &mut self,
-        alloc: Global,
         setup: &Setup<'_>,
         ports: &mut P,
         buffer: &mut [u8],
@@ -75,20 +61,19 @@ impl<'a, M: Monitor> ClockDriver<'a, M> {
         ensures few { self.new.server.journal.lacking ≤ self.old.server.journal.lacking + 1 }
     {
         self.server
-            .take_command(alloc, setup, ports, buffer, Command::Poll, writer)?;
+            .take_command(setup, ports, buffer, Command::Poll, writer)?;
         let Step::Tick(timing) = step else {
             return Ok(());
         };
         let tick = Command::Tick(timing);
         self.server
-            .take_command(alloc, setup, ports, buffer, tick, writer)?;
+            .take_command(setup, ports, buffer, tick, writer)?;
         Ok(())
     }
 
     /// Executes polls and ticks when the clock says that they are due, until the clock or printing fails.
     pub fn take_all<P: Ports, K: Watch, W: Write>(
         &mut self,
-        alloc: Global,
         setup: &Setup<'_>,
         ports: &mut P,
         buffer: &mut [u8],
@@ -115,7 +100,7 @@ impl<'a, M: Monitor> ClockDriver<'a, M> {
             let Ok(step) = self.schedule.next_step(watch) else {
                 return RunFault::Read;
             };
-            let Ok(()) = self.take_step(alloc, setup, ports, buffer, step, writer) else {
+            let Ok(()) = self.take_step(setup, ports, buffer, step, writer) else {
                 return RunFault::Write;
             };
         }

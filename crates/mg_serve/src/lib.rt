@@ -18,6 +18,7 @@
 mod clock_driver;
 mod command;
 mod form;
+mod incoming;
 mod journal_report;
 pub mod journal_theorems;
 mod journaling;

@@ -50,7 +50,6 @@ impl<'a, M: Monitor> LineDriver<'a, M> {
     /// Executes the partial line, which is now complete. Returns whether the line is `quit`.
     fn end_line<P: Ports, W: Write>(
         &mut self,
-        alloc: Global,
         setup: &Setup<'_>,
         ports: &mut P,
         buffer: &mut [u8],
@@ -75,7 +74,7 @@ impl<'a, M: Monitor> LineDriver<'a, M> {
         let command = Command::of_line(without_return(self.partial.as_slice()));
         let quit = self
             .server
-            .take_command(alloc, setup, ports, buffer, command, writer)?;
+            .take_command(setup, ports, buffer, command, writer)?;
         self.partial.clear();
         Ok(quit)
     }
@@ -83,7 +82,6 @@ impl<'a, M: Monitor> LineDriver<'a, M> {
     /// Handles the next bytes of the input. Returns whether they complete a `quit` line.
     fn take_bytes<P: Ports, W: Write>(
         &mut self,
-        alloc: Global,
         setup: &Setup<'_>,
         ports: &mut P,
         buffer: &mut [u8],
@@ -110,7 +108,7 @@ impl<'a, M: Monitor> LineDriver<'a, M> {
                 self.partial.push(*b);
                 continue;
             }
-            if self.end_line(alloc, setup, ports, buffer, writer)? {
+            if self.end_line(setup, ports, buffer, writer)? {
                 return Ok(true);
             }
         }
@@ -120,7 +118,6 @@ impl<'a, M: Monitor> LineDriver<'a, M> {
     /// Executes the last line if it has no line feed.
     fn finish<P: Ports, W: Write>(
         &mut self,
-        alloc: Global,
         setup: &Setup<'_>,
         ports: &mut P,
         buffer: &mut [u8],
@@ -145,14 +142,13 @@ impl<'a, M: Monitor> LineDriver<'a, M> {
         }
         let command = Command::of_line(line);
         self.server
-            .take_command(alloc, setup, ports, buffer, command, writer)?;
+            .take_command(setup, ports, buffer, command, writer)?;
         Ok(())
     }
 
     /// Executes the lines of the input, up to the first `quit` or the end of the input.
     pub fn take_all<P: Ports, R: Read, W: Write>(
         &mut self,
-        alloc: Global,
         setup: &Setup<'_>,
         ports: &mut P,
         buffer: &mut [u8],
@@ -179,12 +175,12 @@ impl<'a, M: Monitor> LineDriver<'a, M> {
                 return Err(RunFault::Read);
             };
             let Some(n) = read else {
-                return match self.finish(alloc, setup, ports, buffer, writer) {
+                return match self.finish(setup, ports, buffer, writer) {
                     Ok(()) => Ok(()),
                     Err(_) => Err(RunFault::Write),
                 };
             };
-            match self.take_bytes(alloc, setup, ports, buffer, &bytes[..n], writer) {
+            match self.take_bytes(setup, ports, buffer, &bytes[..n], writer) {
                 Ok(false) => {}
                 Ok(true) => return Ok(()),
                 Err(_) => return Err(RunFault::Write),

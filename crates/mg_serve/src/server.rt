@@ -23,6 +23,7 @@ ghost use Rattle.mg_serve.specs.aids.Outside.{LeadsByTrace, new_journal, outside
 
 use crate::command::Command;
 use crate::form::Form;
+use crate::incoming::Incoming;
 use crate::journaling::Journaling;
 use crate::monitor::Monitor;
 use crate::output::counts_text;
@@ -44,6 +45,7 @@ const TURN: usize = 64;
 /// A gateway that is driven over ports. Calls that need the session's setup receive it as an argument.
 #[derive(Drop)]
 pub struct Server<'a, M: Monitor> {
+    alloc: Global,
     pub core: Core,
     pub printer: Printer,
     pub journal: Journaling,
@@ -141,6 +143,7 @@ impl<'a, M: Monitor> Server<'a, M> {
         ensures journal { IfOk result (λ server. server.journal ≡ new_journal setup.now) }
     {
         Ok(Server {
+            alloc,
             core,
             printer: Printer::new(alloc, form)?,
             journal: Journaling::new(alloc, setup.journal(), setup.fence())?,
@@ -178,7 +181,6 @@ impl<'a, M: Monitor> Server<'a, M> {
     /// runs it and sends its answer, if it has one. Also drops the datagram if memory runs out or the append fails.
     fn take_control<P: Ports, W: Write>(
         &mut self,
-        alloc: Global,
         setup: &Setup<'_>,
         ports: &mut P,
         source: Peer,
@@ -194,7 +196,7 @@ impl<'a, M: Monitor> Server<'a, M> {
             (Becomes true setup.now 0 (source, bytes.now)) }
         ensures few { self.new.journal.lacking ≤ self.old.journal.lacking }
     {
-        let Ok(parsed) = Core::read(alloc, bytes) else {
+        let Ok(parsed) = Core::read(self.alloc, bytes) else {
             self.printer
                 .note(b"no memory for a control datagram", writer);
             self.unread = self.unread.saturating_add(1);
@@ -269,29 +271,29 @@ impl<'a, M: Monitor> Server<'a, M> {
     /// Handles a datagram from a socket, if its sender is admitted.
     fn take<P: Ports, W: Write>(
         &mut self,
-        alloc: Global,
         setup: &Setup<'_>,
         ports: &mut P,
         socket: u16,
-        source: Peer,
-        bytes: &[u8],
+        datagram: Incoming<'_>,
         writer: &mut W,
     )
         requires sound { IsValidConfig setup.now.config }
         requires last { socket ≤ setup.now.config.slots }
-        requires datagram { IsDatagram source bytes.now }
+        requires datagram { IsDatagram datagram.source datagram.bytes.now }
         ensures value { LeadsByTrace self.old.core.state self.new.core.state
             (outside (ports_seen (P.calls ports.old) (P.journal ports.old)) (W.contents writer.old)
             self.old.printer self.old.journal)
             (outside (ports_seen (P.calls ports.new) (P.journal ports.new)) (W.contents writer.new)
             self.new.printer self.new.journal)
-            (λ w. Becomes (is_admitted setup.now w socket source) setup.now socket (source, bytes.now) w) }
+            (λ w. Becomes (is_admitted setup.now w socket datagram.entry.source) setup.now socket
+            (datagram.entry.source, datagram.entry.bytes.now) w) }
         ensures few { self.new.journal.lacking ≤ self.old.journal.lacking }
     {
+        let Incoming { source, bytes } = datagram;
         if !self.admits(setup, socket, source) {
             self.monitor.count_stranger(socket);
         } else if socket == 0 {
-            self.take_control(alloc, setup, ports, source, bytes, writer);
+            self.take_control(setup, ports, source, bytes, writer);
         } else {
             self.take_media(setup, socket, source, bytes, writer);
         }
@@ -300,7 +302,6 @@ impl<'a, M: Monitor> Server<'a, M> {
     /// Receives a datagram from a socket and handles it. Returns whether a datagram was received.
     fn receive<P: Ports, W: Write>(
         &mut self,
-        alloc: Global,
         setup: &Setup<'_>,
         ports: &mut P,
         socket: u16,
@@ -322,7 +323,7 @@ impl<'a, M: Monitor> Server<'a, M> {
             Ok(Some((n, source))) => {
                 let bytes = &buffer[..n];
                 parts_fit(source.address.as_slice(), source.port, bytes);
-                self.take(alloc, setup, ports, socket, source, bytes, writer);
+                self.take(setup, ports, socket, Incoming { source, bytes }, writer);
                 true
             }
             Ok(None) => false,
@@ -333,7 +334,6 @@ impl<'a, M: Monitor> Server<'a, M> {
     /// Handles at most 64 of the datagrams waiting at a socket. Stops after a failed receive.
     fn turn<P: Ports, W: Write>(
         &mut self,
-        alloc: Global,
         setup: &Setup<'_>,
         ports: &mut P,
         socket: u16,
@@ -352,7 +352,7 @@ impl<'a, M: Monitor> Server<'a, M> {
         ensures few { self.new.journal.lacking ≤ self.old.journal.lacking }
     {
         for _ in 0..TURN {
-            if !self.receive(alloc, setup, ports, socket, buffer, writer) {
+            if !self.receive(setup, ports, socket, buffer, writer) {
                 return;
             }
         }
@@ -362,7 +362,6 @@ impl<'a, M: Monitor> Server<'a, M> {
     /// 64 at each port.
     fn poll<P: Ports, W: Write>(
         &mut self,
-        alloc: Global,
         setup: &Setup<'_>,
         ports: &mut P,
         buffer: &mut [u8],
@@ -380,7 +379,7 @@ impl<'a, M: Monitor> Server<'a, M> {
     {
         self.monitor.begin_poll();
         for socket in 0..=setup.config().slots {
-            self.turn(alloc, setup, ports, socket, buffer, writer);
+            self.turn(setup, ports, socket, buffer, writer);
         }
     }
 
@@ -448,7 +447,6 @@ impl<'a, M: Monitor> Server<'a, M> {
     /// Executes a command.
     fn execute<P: Ports, W: Write>(
         &mut self,
-        alloc: Global,
         setup: &Setup<'_>,
         ports: &mut P,
         buffer: &mut [u8],
@@ -468,7 +466,7 @@ impl<'a, M: Monitor> Server<'a, M> {
         ensures poll { command ≡ Command.Poll → self.new.journal.lacking ≤ self.old.journal.lacking }
     {
         match command {
-            Command::Poll => self.poll(alloc, setup, ports, buffer, writer),
+            Command::Poll => self.poll(setup, ports, buffer, writer),
             Command::Tick(timing) => self.tick(setup, ports, timing, writer),
             Command::Stats => {
                 let text = counts_text(&self.counts(ports), self.journal.fence(), self.stale);
@@ -482,7 +480,6 @@ impl<'a, M: Monitor> Server<'a, M> {
     /// Executes a command, and returns whether it was `quit`. The command is executed in full even if printing fails.
     pub fn take_command<P: Ports, W: Write>(
         &mut self,
-        alloc: Global,
         setup: &Setup<'_>,
         ports: &mut P,
         buffer: &mut [u8],
@@ -506,7 +503,7 @@ impl<'a, M: Monitor> Server<'a, M> {
         ensures poll { command ≡ Command.Poll → self.new.journal.lacking ≤ self.old.journal.lacking }
     {
         self.lines = self.lines.saturating_add(1);
-        self.execute(alloc, setup, ports, buffer, command, writer);
+        self.execute(setup, ports, buffer, command, writer);
         if self.printer.has_failed() {
             return Err(WriteFailed);
         }

@@ -12,6 +12,7 @@ use crate::clock_driver::ClockDriver;
 use crate::form::Form;
 use crate::line_driver::LineDriver;
 use crate::monitor::Monitor;
+use crate::server::Server;
 use crate::setup::Setup;
 use mg_clock::Watch;
 use mg_core::{Core, Counts, DATAGRAM_LIMIT, RunFault};
@@ -103,7 +104,7 @@ fn drive<P: Ports, R: Read, W: Write, M: Monitor>(
     let Ok(()) = driver.server.open(title, writer) else {
         return Err(RunFault::Write);
     };
-    driver.take_all(alloc, setup, ports, buffer.as_mut_slice(), reader, writer)?;
+    driver.take_all(setup, ports, buffer.as_mut_slice(), reader, writer)?;
     Ok(driver.server.counts(ports))
 }
 
@@ -139,10 +140,10 @@ pub fn serve_by_clock<P: Ports, K: Watch, W: Write, M: Monitor>(
         (W.contents writer.old) (W.contents writer.new) (Err result) }
     ensures started { result ≢ RunFault.BadConfig }
 {
-    let Ok(mut driver) = ClockDriver::new(alloc, core, form_of(title), setup, allowed, monitor)
-    else {
+    let Ok(server) = Server::new(alloc, core, form_of(title), setup, monitor) else {
         return RunFault::NoMemory;
     };
+    let mut driver = ClockDriver::new(server, allowed);
     drive_by_clock(&mut driver, alloc, setup, title, ports, watch, writer)
 }
 
@@ -176,7 +177,7 @@ fn drive_by_clock<P: Ports, K: Watch, W: Write, M: Monitor>(
     let Ok(()) = driver.server.open(title, writer) else {
         return RunFault::Write;
     };
-    driver.take_all(alloc, setup, ports, buffer.as_mut_slice(), watch, writer)
+    driver.take_all(setup, ports, buffer.as_mut_slice(), watch, writer)
 }
 
 /// Returns the form of the output: a recording if there is a title, and plain lines otherwise.

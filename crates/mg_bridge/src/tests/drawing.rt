@@ -5,9 +5,11 @@ use super::free_ports;
 use crate::machine::SystemHost;
 use mg_arguments::Draws;
 use mg_core::Config;
-use mg_program::{LocalSystem, System, program};
+use mg_host::{Environment, Outside, System};
+use mg_program::{Ended, program};
 use std::cell::Cell;
-use std::io::{self, ErrorKind};
+use std::io::{self, ErrorKind, Stdin};
+use std::marker::PhantomData;
 use std::random::RandomSource;
 use std::test::Fail;
 use std::time::{Clock, Duration};
@@ -38,6 +40,14 @@ struct FailingClock {
     works: Cell<bool>,
 }
 
+impl FailingClock {
+    fn new() -> Self {
+        FailingClock {
+            works: Cell::new(true),
+        }
+    }
+}
+
 impl Clock for FailingClock {
     fn monotonic(&self) -> io::Result<Duration> {
         if self.works.replace(false) {
@@ -51,6 +61,31 @@ impl Clock for FailingClock {
     }
 }
 
+/// An environment with these random numbers and this clock.
+struct Counted<'a> {
+    of: PhantomData<&'a HostRuntime>,
+}
+
+impl<'a> Environment for Counted<'a> {
+    type Net = HostRuntime;
+
+    type Clock = FailingClock;
+
+    type Random = Counting;
+
+    type Files = HostRuntime;
+
+    type Host = SystemHost<'a, FailingClock>;
+
+    type Input = Stdin;
+
+    type Output = Vec<u8>;
+
+    type Errors = Vec<u8>;
+
+    type Reports = Vec<u8>;
+}
+
 /// The exit status of a run of the program, with its output and error messages.
 #[derive(Drop)]
 struct Outcome {
@@ -59,39 +94,34 @@ struct Outcome {
     errors: Vec<u8>,
 }
 
-/// Runs the program with these arguments and this source of random numbers, and with a clock that can be read once.
-fn run_with(rt: &HostRuntime, random: &Counting, words: &[&str]) -> Outcome {
+/// Runs the program with these arguments, this source of random numbers and this clock.
+fn run_with<'a>(
+    rt: &'a HostRuntime,
+    random: &'a Counting,
+    clock: &'a FailingClock,
+    words: &[&str],
+) -> Outcome {
     let alloc = rt.alloc();
-    let clock = FailingClock {
-        works: Cell::new(true),
+    let system: System<'a, Counted<'a>> = System {
+        alloc,
+        net: rt,
+        clock,
+        random,
+        files: rt,
     };
-    let mut outcome = Outcome {
-        status: 0,
+    let outside = Outside {
+        host: SystemHost::new(rt, clock),
+        input: rt.stdin(),
         output: Vec::new(alloc),
         errors: Vec::new(alloc),
+        reports: Vec::new(alloc),
     };
-    let mut reports = Vec::new(alloc);
-    let system = System {
-        net: rt,
-        local: LocalSystem {
-            clock: &clock,
-            random,
-            files: rt,
-        },
-    };
-    let mut input: &[u8] = b"";
-    let ended = program(
-        &system,
-        SystemHost::new(rt, &clock),
-        alloc,
-        words,
-        &mut input,
-        &mut outcome.output,
-        &mut outcome.errors,
-        &mut reports,
-    );
-    outcome.status = ended.status.code();
-    outcome
+    let Ended { outside, status } = program(&system, outside, words);
+    Outcome {
+        status: status.code(),
+        output: outside.output,
+        errors: outside.errors,
+    }
 }
 
 #[test]
@@ -124,7 +154,8 @@ fn reports_a_lack_of_random_numbers(rt: HostRuntime) {
         (&words[..4], 3, b"cannot draw random numbers: ".as_slice()),
         (&words, 5, b"cannot bind 192.0.2.1:2944: "),
     ] {
-        let done = run_with(&rt, &none, words);
+        let clock = FailingClock::new();
+        let done = run_with(&rt, &none, &clock, words);
         assert_equal(&rt, done.status, status);
         assert!(rt; done.output.is_empty() && done.errors.as_slice().starts_with(message));
     }
@@ -136,7 +167,9 @@ fn ends_if_the_clock_fails(rt: HostRuntime) -> Result<(), Fail> {
     let control = format!(in rt.alloc(); "--control-port={control}")?;
     let base = format!(in rt.alloc(); "--base-port={base}")?;
     let words = ["live", control.as_str(), base.as_str(), "--slots=1"];
-    let done = run_with(&rt, &Counting { works: true }, &words);
+    let random = Counting { works: true };
+    let clock = FailingClock::new();
+    let done = run_with(&rt, &random, &clock, &words);
     assert_equal(&rt, done.status, 3);
     assert_equal(&rt, done.output.as_slice(), b"ready\n".as_slice());
     assert_equal(&rt, done.errors.as_slice(), b"read failed\n".as_slice());

@@ -15,41 +15,41 @@ use Rattle.mg_program.proofs.live.live_on_sockets.Goals as goal
 
 pub returns : goal.returns
 returns g c =
-    let config = c.args.ready.config in
-    let service = c.args.service.now in
+    let config = c.args.ready.gateway.config in
+    let service = c.args.ready.gateway.service.now in
     let ports = c.live_on-fault.new.ports in
-    let last : Option (List HostCall) = g.H.Tells.calls c.stop.new.self in
+    let last : Option (List HostCall) = g.E.Host.Tells.calls c.stop.new.self in
     let before = option_map_or (λ j. j) c.args.ready.journal no_journal in
     let after = option_map_or (λ j. j) ports.journal no_journal in
-    let old = ports_seen (port_calls (g.H.Tells.calls c.args.host)) before in
+    let old = ports_seen (port_calls (g.E.Host.Tells.calls c.args.host)) before in
     let new : Option (List HostCall) → PortsSeen = λ calls. ports_seen (port_calls calls) after in
-    let unread = clock_seen (g.H.Watch.Watch.readings c.args.watch) (g.H.Watch.Watch.waits c.args.watch) in
-    let clock = clock_seen (g.H.Watch.Watch.readings c.live_on-fault.new.watch)
-    (g.H.Watch.Watch.waits c.live_on-fault.new.watch) in
+    let unread = clock_seen (g.E.Host.Watch.Watch.readings c.args.timer.watch) (g.E.Host.Watch.Watch.waits c.args.timer.watch) in
+    let clock = clock_seen (g.E.Host.Watch.Watch.readings c.live_on-fault.new.timer.watch)
+    (g.E.Host.Watch.Watch.waits c.live_on-fault.new.timer.watch) in
     let known = knows ports.timing ports.ready false in
-    let begun = g.H.Tells.calls c.args.host in
-    let setup = setup_of config c.args.ready.reached service in
+    let begun = g.E.Host.Tells.calls c.args.host in
+    let setup = setup_of config c.args.ready.gateway.reached service in
     let title = title_if service.records config in
     let fault = c.live_on-fault.result in
-    let held = g.W.Write.contents c.args.output.now in
-    let written = g.W.Write.contents c.live_on-fault.new.output in
+    let held = g.E.Output.Write.contents c.args.output.now in
+    let written = g.E.Output.Write.contents c.live_on-fault.new.output in
     record {
       value = λ text bound can. record {
         sound = c.requires.sound;
         runs = fault_ran c.live_on-fault.result c.live_on-fault.ensures.started;
         start = can.world;
-        reached = c.args.ready.reached;
+        reached = c.args.ready.gateway.reached;
         before = before;
         after = after;
-        begun = g.H.Tells.calls c.args.host;
+        begun = g.E.Host.Tells.calls c.args.host;
         started = can.started;
-        served = subst (λ (s : ClockSeen). Served setup can.world title (Gives (ByClock c.args.late s) (form_of title) begun (Err fault))
+        served = subst (λ (s : ClockSeen). Served setup can.world title (Gives (ByClock c.args.timer.late s) (form_of title) begun (Err fault))
             old (new last) held written (Err fault)) (sym c.stop.ensures.stopped)
             (subst (λ (x : Option (List HostCall)). Served setup can.world title
-            (Gives (ByClock c.args.late clock) (form_of title) begun (Err fault)) old (new x) held written (Err fault))
+            (Gives (ByClock c.args.timer.late clock) (form_of title) begun (Err fault)) old (new x) held written (Err fault))
             (sym c.stop.ensures.same)
-            (served_any setup can.world title c.args.late unread clock (g.H.Watch.Watch.Fails c.live_on-fault.new.watch)
-            begun old (new (g.H.Tells.calls ports.host)) held written fault c.requires.unread
+            (served_any setup can.world title c.args.timer.late unread clock (g.E.Host.Watch.Watch.Fails c.live_on-fault.new.timer.watch)
+            begun old (new (g.E.Host.Tells.calls ports.host)) held written fault c.requires.unread
             (rw (c.new-ports.ensures.host, c.new-ports.ensures.journal) at
             (c.live_on-fault.ensures.session can.world can.stands))));
         known = known;

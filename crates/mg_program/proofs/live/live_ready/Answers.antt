@@ -6,38 +6,32 @@ use Rattle.mg_start.specs.aids.Starting.{CanStart}
 use Rattle.mg_program.proofs.PortLemmas.{fails_anyhow, not_started}
 use Rattle.mg_program.proofs.live.live_ready.Goals as goal
 
-pub returns-in-Err : goal.returns-in-Err
-returns-in-Err g c = record {
-  value = λ text found bound can binds. inr (
-    fails_anyhow c.args.ready.config c.watch_fault-status.result c.watch_fault-status.ensures.ends,
-    not_started c.args.service.now.journal text c.args.service.now.bind_addresses c.args.ready.config can.started.missed
-        c.args.service.now.fence_from found bound (g.H.Tells.calls c.args.host) (g.H.Tells.calls c.watch.new.self) binds
-        can.started.begins c.watch.ensures.same,
-    refl,
-  );
-}
+pub returns-in-Err-clause-value : goal.returns-in-Err-clause-value
+returns-in-Err-clause-value g c = λ text found bound can binds. inr (
+  fails_anyhow c.args.ready.gateway.config c.watch_fault-status.result c.watch_fault-status.ensures.ends,
+  not_started c.args.ready.gateway.service.now.journal text c.args.ready.gateway.service.now.bind_addresses c.args.ready.gateway.config can.started.missed
+      c.args.ready.gateway.service.now.fence_from found bound (g.E.Host.Tells.calls c.args.outside.host) (g.E.Host.Tells.calls c.watch.new.self) binds
+      can.started.begins c.watch.ensures.same,
+  refl,
+)
 
-pub returns-in-Err-monitor : goal.returns-in-Err-monitor
-returns-in-Err-monitor g c = record {
-  value = λ text found bound can binds. inr (
-    tt,
-    not_started c.args.service.now.journal text c.args.service.now.bind_addresses c.args.ready.config can.started.missed
-        c.args.service.now.fence_from found bound (g.H.Tells.calls c.args.host) (g.H.Tells.calls c.watch.new.self) binds
-        can.started.begins c.watch.ensures.same,
-    refl,
-  );
-}
+pub returns-in-Err-monitor-clause-value : goal.returns-in-Err-monitor-clause-value
+returns-in-Err-monitor-clause-value g c = λ text found bound can binds. inr (
+  tt,
+  not_started c.args.ready.gateway.service.now.journal text c.args.ready.gateway.service.now.bind_addresses c.args.ready.gateway.config can.started.missed
+      c.args.ready.gateway.service.now.fence_from found bound (g.E.Host.Tells.calls c.args.outside.host) (g.E.Host.Tells.calls c.watch.new.self) binds
+      can.started.begins c.watch.ensures.same,
+  refl,
+)
 
-pub returns : goal.returns
-returns g c = record {
-  value = λ text found bound can binds. inl (
-    Err c.live_on_sockets.result.1,
-    bound,
-    c.status_after.ensures.value,
-    binds,
-    c.live_on_sockets.ensures.value text bound (subst (λ (x : Option (List HostCall)).
-        CanStart c.args.service.now.journal text c.args.service.now.fence_from c.args.ready.config
-        c.args.ready.core.state c.args.ready.reached
-        (option_map_or (λ j. j) c.args.ready.journal no_journal) bound x) (sym c.watch.ensures.same) can),
-  );
-}
+pub returns-clause-value : goal.returns-clause-value
+returns-clause-value g c = λ text found bound can binds. inl (
+  Err c.live_on_sockets.result.1,
+  bound,
+  c.status_after-status.ensures.value,
+  binds,
+  c.live_on_sockets.ensures.value text bound (subst (λ (x : Option (List HostCall)).
+      CanStart c.args.ready.gateway.service.now.journal text c.args.ready.gateway.service.now.fence_from c.args.ready.gateway.config
+      c.args.ready.gateway.core.state c.args.ready.gateway.reached
+      (option_map_or (λ j. j) c.args.ready.journal no_journal) bound x) (sym c.watch.ensures.same) can),
+)

@@ -4,14 +4,14 @@ use Rattle.mg_program.proofs.ready.make_ready.Goals as goal
 
 pub returns-in-Err-check_metrics-clause-fails : goal.returns-in-Err-check_metrics-clause-fails
 returns-in-Err-check_metrics-clause-fails g c =
-    no_session (g.H.Tells.calls c.args.host.now) (g.H.Tells.calls c.bind.new.host)
+    no_session (g.E.Host.Tells.calls c.args.host.now) (g.E.Host.Tells.calls c.bind.new.host)
     (binds_of c.args.prepared.config c.args.service.now.bind_addresses) c.in_default.ensures.bound
     (binds_quiet c.args.prepared.config c.args.service.now.bind_addresses)
 
 pub returns-clause-fails : goal.returns-clause-fails
 returns-clause-fails g c =
-    no_session_then (g.H.Tells.calls c.args.host.now) (g.H.Tells.calls c.bind.new.host)
-    (g.H.Tells.calls c.begin_journal.new.host) (binds_of c.args.prepared.config c.args.service.now.bind_addresses)
+    no_session_then (g.E.Host.Tells.calls c.args.host.now) (g.E.Host.Tells.calls c.bind.new.host)
+    (g.E.Host.Tells.calls c.begin_journal.new.host) (binds_of c.args.prepared.config c.args.service.now.bind_addresses)
     c.in_default.ensures.bound
     (binds_quiet c.args.prepared.config c.args.service.now.bind_addresses)
     c.in-Err-begin_journal.ensures.fails

@@ -12,16 +12,16 @@ returns-in-Some g c = record {
       c.log_unsent.ensures.logged (c.in-Some.ensures.value ready c.args.bytes.now);
 }
 
-pub returns-then-is_err : goal.returns-then-is_err
-returns-then-is_err g c = record {
-  done = λ ready. does_one (g.H.Tells.calls c.args.host.now) (g.H.Tells.calls c.send-sent.new.self)
+pub returns-in-Ok : goal.returns-in-Ok
+returns-in-Ok g c = record {
+  done = λ ready. does_one (g.H.Tells.calls c.args.host.now) (g.H.Tells.calls c.send.new.self)
       (OnPorts (Send c.args.socket c.args.to c.args.bytes.now)) (knows c.args.timing ready false)
-      c.send-sent.ensures.logged (c.in_default.ensures.value ready c.args.bytes.now);
+      c.send.ensures.logged (c.in_default.ensures.value ready c.args.bytes.now);
 }
 
-pub returns-else-is_err : goal.returns-else-is_err
-returns-else-is_err g c = record {
-  done = λ ready. does_one (g.H.Tells.calls c.args.host.now) (g.H.Tells.calls c.send-sent.new.self)
+pub returns-in-Err : goal.returns-in-Err
+returns-in-Err g c = record {
+  done = λ ready. does_one (g.H.Tells.calls c.args.host.now) (g.H.Tells.calls c.send.new.self)
       (OnPorts (Send c.args.socket c.args.to c.args.bytes.now)) (knows c.args.timing ready false)
-      c.send-sent.ensures.logged (c.in_default.ensures.value ready c.args.bytes.now);
+      c.send.ensures.logged (c.in_default.ensures.value ready c.args.bytes.now);
 }

@@ -14,15 +14,15 @@ returns g c =
         sound = c.requires.sound;
         runs = c.serve_on-outcome.ensures.started;
         start = can.world;
-        reached = c.args.ready.reached;
+        reached = c.args.ready.gateway.reached;
         before = option_map_or (λ j. j) c.args.ready.journal no_journal;
         after = option_map_or (λ j. j) ports.journal no_journal;
-        begun = g.H.Tells.calls c.args.host;
+        begun = g.E.Host.Tells.calls c.args.host;
         started = can.started;
         served = rw (c.new-ports.ensures.host, c.new-ports.ensures.journal) at
             (c.serve_on-outcome.ensures.session can.world can.stands);
         known = known;
-        decided = subst (λ (x : Option (List HostCall)). HasDecided x (g.H.Tells.calls ports.host) known)
+        decided = subst (λ (x : Option (List HostCall)). HasDecided x (g.E.Host.Tells.calls ports.host) known)
             (sym c.requires.begins) ports.decided;
       };
     }

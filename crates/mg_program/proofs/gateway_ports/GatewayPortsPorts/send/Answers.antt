@@ -13,8 +13,14 @@ invariant_of-self g c = record {
       (c.send_in_time-sent.ensures.done c.args.self.now.ready);
 }
 
-pub returns-clause-logged : goal.returns-clause-logged
-returns-clause-logged g c = does_logged
+pub returns-in-Ok-clause-logged : goal.returns-in-Ok-clause-logged
+returns-in-Ok-clause-logged g c = does_logged
+    (g.H.Tells.calls c.args.self.now.host) (g.H.Tells.calls c.send_in_time-sent.new.host) (Send c.args.socket c.args.to c.args.bytes.now ∷ [])
+    (knows c.args.self.now.timing c.args.self.now.ready false) (knows c.args.self.now.timing c.args.self.now.ready false)
+    (c.send_in_time-sent.ensures.done c.args.self.now.ready)
+
+pub returns-in-Err-clause-logged : goal.returns-in-Err-clause-logged
+returns-in-Err-clause-logged g c = does_logged
     (g.H.Tells.calls c.args.self.now.host) (g.H.Tells.calls c.send_in_time-sent.new.host) (Send c.args.socket c.args.to c.args.bytes.now ∷ [])
     (knows c.args.self.now.timing c.args.self.now.ready false) (knows c.args.self.now.timing c.args.self.now.ready false)
     (c.send_in_time-sent.ensures.done c.args.self.now.ready)

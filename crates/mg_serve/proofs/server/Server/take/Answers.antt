@@ -7,7 +7,7 @@ use Rattle.mg_serve.proofs.server.Server.take.Goals as goal
 
 pub returns-then-not-admits-clause-value : goal.returns-then-not-admits-clause-value
 returns-then-not-admits-clause-value g c =
-    let datagram : Peer × List ℕ = (c.args.source, c.args.bytes.now) in
+    let datagram : Peer × List ℕ = (c.args.datagram.source, c.args.datagram.bytes.now) in
     let core = c.args.self.now.core.state in
     let x = outside (ports_seen (g.P.Ports.calls c.args.ports.now) (g.P.Ports.journal c.args.ports.now))
     (g.W.Write.contents c.args.writer.now) c.args.self.now.printer c.args.self.now.journal in
@@ -23,9 +23,9 @@ returns-then-socket-eq0-clause-value g c =
     (g.W.Write.contents c.args.writer.now) c.args.self.now.printer c.args.self.now.journal in
     let y = outside (ports_seen (g.P.Ports.calls c.take_control.new.ports) (g.P.Ports.journal c.take_control.new.ports))
     (g.W.Write.contents c.take_control.new.writer) c.take_control.new.self.printer c.take_control.new.self.journal in
-    by_admission true c.args.setup.now c.args.socket (c.args.source, c.args.bytes.now) old core x y
+    by_admission true c.args.setup.now c.args.socket (c.args.datagram.source, c.args.datagram.bytes.now) old core x y
     (λ w stands. sym c.if-not-admits.false ∙ c.admits.ensures.value w stands)
-    (at_control c.args.setup.now c.args.socket c.args.source c.args.bytes.now old core x y c.if-socket-eq0.true
+    (at_control c.args.setup.now c.args.socket c.args.datagram.source c.args.datagram.bytes.now old core x y c.if-socket-eq0.true
     c.take_control.ensures.value)
 
 pub returns-else-socket-eq0-clause-value : goal.returns-else-socket-eq0-clause-value
@@ -39,8 +39,8 @@ returns-else-socket-eq0-clause-value g c =
     let after = c.take_media.new.self.printer in
     let journal = c.args.self.now.journal in
     rw c.take_media.ensures.journal
-    (by_admission true c.args.setup.now c.args.socket (c.args.source, c.args.bytes.now) old core
+    (by_admission true c.args.setup.now c.args.socket (c.args.datagram.source, c.args.datagram.bytes.now) old core
     (outside seen held before journal) (outside seen written after journal)
     (λ w stands. sym c.if-not-admits.false ∙ c.admits.ensures.value w stands)
-    (media_taken c.args.setup.now c.args.socket c.args.source c.args.bytes.now old core seen held written before after
+    (media_taken c.args.setup.now c.args.socket c.args.datagram.source c.args.datagram.bytes.now old core seen held written before after
     journal (omega (arith, c.if-socket-eq0.false)) c.take_media.ensures.value c.take_media.ensures.printed))

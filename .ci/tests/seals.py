@@ -24,7 +24,8 @@ def is_seal(line):
 
 
 def sealed(text, minute=3000):
-    """A recording with a seal after the ticks of each minute, and one at its end. None is added next to a seal."""
+    """A recording with a seal after the ticks of each minute, and one after its last line, if that is complete. None is
+    added next to a seal."""
     found, ticks = "", 0
     for line in text.splitlines(keepends=True):
         if ticks == minute:

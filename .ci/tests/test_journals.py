@@ -76,6 +76,34 @@ class Journals(Commands):
         Path(self.path).write_text(text.replace("--ssrc=7", "--ssrc=8"))
         self.ends(1, "changed up to line 3\n", "", "verify", self.path)
 
+    def test_a_journal_that_was_changed_is_refused(self):
+        """Lines that are lines of a script, too, but not those that the gateway wrote."""
+        os.remove(self.path)
+        words = ["serve", *ports(0, 2), "--ssrc=7", "--journal", self.path]
+        for _ in range(3):
+            self.assertEqual(run(*words, text="tick\n" * 10 + "quit\n")[0], 0)
+        text = Path(self.path).read_text()
+        lines = text.splitlines(keepends=True)
+        seals = [n for n, line in enumerate(lines, 1) if line.startswith("# sha256 ")]
+        ticks = [n for n, line in enumerate(lines, 1) if line == "ticks 10\n"]
+        self.assertEqual((len(seals), len(ticks)), (3, 3))
+        for name, at, line, wrong in (
+            ("another number", ticks[0], "ticks 11\n", seals[1]),
+            ("a line is missing", ticks[1], "", seals[2] - 1),
+            ("a line is there twice", ticks[0], "ticks 10\nticks 10\n", seals[1] + 1),
+            ("another comment", ticks[1] - 1, "# note\n", seals[2]),
+            ("a seal", seals[1], lines[seals[1] - 1].replace("0", "1"), seals[1]),
+        ):
+            changed = "".join([*lines[:at - 1], line, *lines[at:]])
+            Path(self.path).write_text(changed)
+            with self.subTest(name):
+                message = f"journal {self.path}: line {wrong} is a wrong seal: a line before it was changed\n"
+                self.ends(6, "", message, *words, text="quit\n")
+                self.assertEqual(Path(self.path).read_text(), changed)
+        # Nothing seals the last lines.
+        Path(self.path).write_text("".join([*lines[:ticks[2] - 1], "ticks 11\n"]))
+        self.assertEqual(run(*words, text="quit\n")[0], 0)
+
     def test_missed_ticks_are_passed(self):
         """Ten seconds have passed since the journal's date, but only five ticks were run."""
         start = datetime.now(timezone.utc).replace(microsecond=0) - timedelta(seconds=10)
@@ -203,7 +231,7 @@ class Journals(Commands):
                 self.ends(6, "", message, "heard", "--at=2026-11-27T14:03:20Z", self.path)
 
     def test_counted_ticks(self):
-        """A line can be many ticks, but only behind the line that says so."""
+        """A line can count many ticks, but only after the line that says so."""
         for text, ticks in (
             ("# counted ticks\nticks 1\n", 1),
             ("tick\n# counted ticks\nticks 12\ntick\r\nticks 4294967296\r\n# counted ticks\n", 14 + 2**32),
@@ -295,7 +323,7 @@ class Journals(Commands):
         words = [*ports(0, 2), "--journal", self.path]
         with Gateway("serve", *words) as gateway:
             self.assertEqual(gateway.ready, "ready\n")
-            self.ends(6, "", f"journal {self.path}: in use by another gateway\n", "serve", *words, text="quit\n")
+            self.ends(3, "", f"journal {self.path}: in use by another gateway\n", "serve", *words, text="quit\n")
             self.assertEqual(gateway.finish("quit")[0], 0)
         self.assertEqual(run("serve", *words, text="quit\n")[0], 0)
 
@@ -317,4 +345,4 @@ class Journals(Commands):
             ("/dev/null/journal", "Not a directory (os error 20)"),
             ("/nowhere/journal", "No such file or directory (os error 2)"),
         ):
-            self.ends(6, "", f"journal {path}: cannot be opened: {error}\n", "serve", "--journal", path, text="quit\n")
+            self.ends(3, "", f"journal {path}: cannot be opened: {error}\n", "serve", "--journal", path, text="quit\n")

@@ -7,6 +7,7 @@ use Rattle.std.proofs.Math.Seq.{take-append_seam}
 use Rattle.std.proofs.lemmas.List.Elements.{All-nil}
 use Rattle.std.specs.Io.{StartsWith}
 use Rattle.std.specs.Io.KnownBytes.{Consumes}
+use Rattle.mg_chain.specs.Seals.{seals_of}
 use Rattle.mg_core.specs.declared.state.CoreState.{CoreState}
 use Rattle.mg_core.specs.aids.Resume.{IsResumed}
 use Rattle.mg_core.specs.Follow.{IsFollowed}
@@ -59,10 +60,10 @@ drawn_chosen (Some (byte ∷ text)) given draws config chosen empty drawn = absu
 -- with the given options.
 pub agreed_chosen : (text : Option (List ℕ)) (given : Given) (draws : Draws) (config chosen : Config)
     → IfSome text (λ t. t ≢ []) → Agrees given config chosen → IfSome text (λ t. StartsWith t (title_line chosen))
-    → IsChosen text given draws config chosen
-agreed_chosen None given draws config chosen lines agrees titled = inr agrees
-agreed_chosen (Some []) given draws config chosen lines agrees titled = absurd (lines refl)
-agreed_chosen (Some (byte ∷ text)) given draws config chosen lines agrees titled = (agrees, titled)
+    → IfSome text (λ t. (seals_of t).wrong ≡ None) → IsChosen text given draws config chosen
+agreed_chosen None given draws config chosen lines agrees titled sealed = inr agrees
+agreed_chosen (Some []) given draws config chosen lines agrees titled sealed = absurd (lines refl)
+agreed_chosen (Some (byte ∷ text)) given draws config chosen lines agrees titled sealed = (agrees, titled, sealed)
 
 -- If a known text was read to its end, the script is the whole text.
 read_whole : (text script : List ℕ) (rest : Option (List ℕ)) → HasRead (Some text) rest script true → text ≡ script

@@ -3,6 +3,7 @@ use Rattle.std.specs.Prelude.{◌≡◌, ◌⊎◌, ℕ, List, [], ◌∷◌, �
 use Rattle.std.specs.Prelude.{true, false}
 use Rattle.std.specs.Option.{option_map}
 use Rattle.std.specs.Io.{StartsWith}
+use Rattle.mg_chain.specs.Seals.{seals_of}
 use Rattle.mg_engine.specs.declared.config.Config.{Config}
 use Rattle.mg_engine.specs.Config.{IsValidConfig}
 use Rattle.mg_core.specs.Counted.{journal_lines}
@@ -60,6 +61,7 @@ IsChosen None given draws config chosen = IsDrawn draws config chosen ⊎ Agrees
 IsChosen (Some []) given draws config chosen = IsDrawn draws config chosen
 IsChosen (Some (byte ∷ text)) given draws config chosen =
     Agrees given config chosen × StartsWith (byte ∷ text) (title_line chosen)
+    × ((seals_of (byte ∷ text)).wrong ≡ None)
 
 -- The world in which a gateway is resumed, and the number that its messages have reached. If the journal's text is
 -- known, exactly its events have happened in this world, and its notes reach this number.

@@ -7,49 +7,43 @@ ghost use Rattle.mg_start.specs.aids.Starting.{KeepsTimes, CanResume, CanStart};
 ghost use Rattle.mg_start.specs.Start.{FailsToStart};
 
 use crate::found_journal::FoundJournal;
-use mg_arguments::Service;
-use mg_core::{Config, Core};
-use mg_dates::DatedJournal;
-use mg_host::Dates;
-use mg_journal::{FileJournal, JournalFile};
+use crate::gateway::Gateway;
+use crate::kept_journal::KeptJournal;
+use mg_host::{Environment, Journals, System};
 use mg_options::Status;
-use std::alloc::Global;
-use std::io::Write;
-use std::time::Clock;
 
 /// If there is a journal, starts appending to it, and skips the ticks that the gateway missed. If that fails, reports
-/// the fault to `errors` and returns the program's exit status. `reached` is the number that the journal has reached.
-pub fn begin_journal<'a, T: Dates, F: JournalFile, C: Clock, E: Write>(
-    host: &mut T,
-    alloc: Global,
-    config: &Config,
-    service: &Service,
-    clock: &'a C,
-    found: Option<FoundJournal<F>>,
-    core: &mut Core,
-    reached: u32,
-    errors: &mut E,
-) -> Result<Option<DatedJournal<'a, FileJournal<F>, C>>, Status>
-where
-    F: Drop,
+/// the fault to `errors` and returns the program's exit status.
+pub fn begin_journal<'a, E: Environment>(
+    system: &System<'a, E>,
+    host: &mut E::Host,
+    gateway: &mut Gateway<'_>,
+    found: Option<FoundJournal<<E::Host as Journals>::File>>,
+    errors: &mut E::Errors,
+) -> Result<KeptJournal<'a, E>, Status>
     requires resumed { CanResume (option_map_or (λ j. text_in j.opening.file) found (Some []))
-        config.now core.old.state reached }
-    requires found { IsSome service.now.journal → IsSome found }
+        gateway.old.config gateway.old.core.state gateway.old.reached }
+    requires found { IsSome gateway.old.service.now.journal → IsSome found }
     requires times { IfSome found (λ j. KeepsTimes j.timeline (text_in j.opening.file)) }
-    ensures started { IfOk result (λ journal. CanStart service.now.journal
-        (option_map_or (λ j. text_in j.opening.file) found (Some [])) service.now.fence_from config.now core.new.state reached
-        (option_map_or (λ j. j) journal no_journal) (T.calls host.old) (T.calls host.new)) }
-    ensures fails { OnErr result (RunsNoSession (T.calls host.old) (T.calls host.new)) }
+    ensures started { IfOk result (λ journal. CanStart gateway.old.service.now.journal
+        (option_map_or (λ j. text_in j.opening.file) found (Some [])) gateway.old.service.now.fence_from
+        gateway.old.config gateway.new.core.state gateway.old.reached
+        (option_map_or (λ j. j) journal no_journal) (E.Host.calls host.old) (E.Host.calls host.new)) }
+    ensures config { gateway.new.config ≡ gateway.old.config }
+    ensures reached { gateway.new.reached ≡ gateway.old.reached }
+    ensures service { gateway.new.service ≡ gateway.old.service }
+    ensures fails { OnErr result (RunsNoSession (E.Host.calls host.old) (E.Host.calls host.new)) }
     ensures quiet { OnOk result (errors.new ≡ errors.old) }
-    ensures ends { IfErr result (FailsToStart config.now) }
+    ensures ends { IfErr result (FailsToStart gateway.old.config) }
 {
+    let service = gateway.service;
     let Some(path) = &service.journal else {
         return Ok(None);
     };
     let Some(found) = found else {
         return Ok(None);
     };
-    match found.begin(host, alloc, config, clock, service.fence_from, core) {
+    match found.begin(system, host, gateway) {
         Ok(journal) => Ok(Some(journal)),
         Err(fault) => Err(fault.report(path, errors)),
     }

@@ -9,17 +9,18 @@ ghost use Rattle.mg_host.specs.HostCalls.{Grows};
 ghost use Rattle.mg_start.specs.aids.Starting.{HasBegun, Logs, PassesTicks, missed_by, title_before};
 ghost use Rattle.mg_arguments.specs.Title.{title_line};
 
+use crate::gateway::Gateway;
 use crate::journal_fault::JournalFault;
+use crate::start::Start;
 use arrayvec::ArrayVec;
 use itoa::Buffer;
 use mg_arguments::{TITLE_LIMIT, title_of};
-use mg_core::{Config, Core, ticks_line};
+use mg_core::{Config, ticks_line};
 use mg_dates::{Date, DatedJournal, Timeline};
-use mg_host::{Dates, Tells};
+use mg_host::{Dates, Environment, System, Tells};
 use mg_journal::{AppendFault, Durability, FileJournal, Journal, JournalFile, Opening};
-use std::alloc::{AllocError, Global};
+use std::alloc::AllocError;
 use std::io::{self, ErrorKind};
-use std::time::Clock;
 
 /// The maximum length of a title's line, in bytes.
 const TITLE_ROOM: usize = TITLE_LIMIT + 3;
@@ -168,26 +169,25 @@ fn append_first<T: Tells, J: Journal>(
     host: &mut T,
     is_new: bool,
     config: &Config,
-    missed: u64,
-    fence: Option<u32>,
+    start: Start,
     journal: &mut J,
 ) -> Result<(), AppendFault>
-    ensures new { is_new ≡ true → OnOk result (J.journal journal.new ≡ appended (start_lines missed fence) Durability.Written
+    ensures new { is_new ≡ true → OnOk result (J.journal journal.new ≡ appended (start_lines start.missed start.fence) Durability.Written
         (appended (title_line config.now) Durability.Synced (J.journal journal.old))) }
     ensures new_logged { is_new ≡ true → Logs (T.calls host.old) (T.calls host.new)
-        (title_line config.now ++ start_lines missed fence) result }
-    ensures old { is_new ≡ false → OnOk result (J.journal journal.new ≡ appended (start_lines missed fence)
+        (title_line config.now ++ start_lines start.missed start.fence) result }
+    ensures old { is_new ≡ false → OnOk result (J.journal journal.new ≡ appended (start_lines start.missed start.fence)
         Durability.Written (J.journal journal.old)) }
-    ensures old_logged { is_new ≡ false → Logs (T.calls host.old) (T.calls host.new) (start_lines missed fence) result }
+    ensures old_logged { is_new ≡ false → Logs (T.calls host.old) (T.calls host.new) (start_lines start.missed start.fence) result }
     ensures fails { OnErr result (RunsNoSession (T.calls host.old) (T.calls host.new)) }
 {
     if !is_new {
-        return append_start(host, missed, fence, journal);
+        return append_start(host, start.missed, start.fence, journal);
     }
     if let Err(fault) = append_title(host, config, journal) {
         return Err(fault);
     }
-    append_start(host, missed, fence, journal)
+    append_start(host, start.missed, start.fence, journal)
 }
 
 /// Returns whether a journal is new: it has no timeline.
@@ -223,38 +223,44 @@ impl<F: JournalFile> FoundJournal<F> {
         }
     }
 
-    /// Starts appending to the journal, and skips the ticks that the gateway missed. Appends the lines with which the
-    /// gateway starts: `# counted ticks`, the lines for missed ticks and, if `fence` is given, the comment that sets
-    /// the fence.
-    pub fn begin<'a, T: Dates, C: Clock>(
+    /// Starts appending to the journal, and skips the ticks that the gateway missed. Appends the title if the journal
+    /// is new. Then appends the lines with which the gateway starts: `# counted ticks`, the lines for missed ticks if
+    /// there are any and, if an operator sets the fence, the comment that sets it.
+    pub fn begin<'a, E: Environment>(
         self,
-        host: &mut T,
-        alloc: Global,
-        config: &Config,
-        clock: &'a C,
-        fence: Option<u32>,
-        core: &mut Core,
-    ) -> Result<DatedJournal<'a, FileJournal<F>, C>, JournalFault>
+        system: &System<'a, E>,
+        host: &mut E::Host,
+        gateway: &mut Gateway<'_>,
+    ) -> Result<DatedJournal<'a, FileJournal<F>, E::Clock>, JournalFault>
     where
         F: Drop,
         ensures passed { (missed : ℕ) × (millis : Option ℕ) × (read : Option (List HostCall))
-            × (missed ≡ missed_by self.timeline millis) × Grows (T.calls host.old) read (ReadDate millis ∷ [])
-            × PassesTicks missed core.old.state core.new.state
+            × (missed ≡ missed_by self.timeline millis)
+            × Grows (E.Host.calls host.old) read (ReadDate millis ∷ [])
+            × PassesTicks missed gateway.old.core.state gateway.new.core.state
             × IfOk result (λ journal.
-            HasBegun (title_before self.timeline config.now) missed fence (text_in self.opening.file) journal)
-            × Logs read (T.calls host.new) (title_before self.timeline config.now ++ start_lines missed fence) result }
+            HasBegun (title_before self.timeline gateway.old.config) missed gateway.old.service.now.fence_from
+            (text_in self.opening.file) journal)
+            × Logs read (E.Host.calls host.new) (title_before self.timeline gateway.old.config
+            ++ start_lines missed gateway.old.service.now.fence_from) result }
+        ensures config { gateway.new.config ≡ gateway.old.config }
+        ensures reached { gateway.new.reached ≡ gateway.old.reached }
+        ensures service { gateway.new.service ≡ gateway.old.service }
     {
+        let config = gateway.config;
+        let fence = gateway.service.fence_from;
         let missed = self.missed(host);
-        core.skip(missed);
+        gateway.core.skip(missed);
         let is_new = is_new(&self.timeline);
         let mut journal = match self.opening.accept() {
             Ok(journal) => journal,
             Err(error) => return Err(JournalFault::Write(error)),
         };
-        if append_first(host, is_new, config, missed, fence, &mut journal).is_err() {
+        let start = Start { missed, fence };
+        if append_first(host, is_new, &config, start, &mut journal).is_err() {
             return Err(write_fault(&journal));
         }
-        match DatedJournal::new(alloc, journal, clock) {
+        match DatedJournal::new(system.alloc, journal, system.clock) {
             Ok(dated) => Ok(dated),
             Err(AllocError) => Err(JournalFault::NoMemory),
         }

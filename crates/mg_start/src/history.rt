@@ -3,6 +3,7 @@ ghost use Rattle.std.specs.Io.{StartsWith};
 ghost use Rattle.mg_journal.specs.Text.{whole_lines};
 ghost use Rattle.mg_journal.specs.aids.Opened.{text_in};
 ghost use Rattle.mg_core.specs.aids.Resume.{IsResumed};
+ghost use Rattle.mg_chain.specs.Seals.{seals_of};
 ghost use Rattle.mg_engine.specs.Config.{IsValidConfig};
 ghost use Rattle.mg_arguments.specs.Given.{Agrees};
 ghost use Rattle.mg_arguments.specs.Title.{title_line};
@@ -14,6 +15,7 @@ use crate::journal_reader::JournalReader;
 use crate::reading::{FileKey, Reading};
 use memchr::memchr;
 use mg_arguments::{ConfigFault, Given, titled};
+use mg_chain::read_seals;
 use mg_core::{Config, Core, RunFault, resume};
 use mg_dates::Timeline;
 use mg_journal::{JournalFile, Opening};
@@ -134,6 +136,40 @@ fn check_config(given: &Given, wanted: &Config, config: &Config) -> Result<(), J
     }
 }
 
+/// Returns the fault for a journal that couldn't be read.
+fn read_fault(error: io::Error) -> JournalFault {
+    match error.kind() {
+        ErrorKind::OutOfMemory => JournalFault::NoMemory,
+        _ => JournalFault::Read(error),
+    }
+}
+
+/// Checks the seals in a journal. Returns the journal, which is at its first line again.
+fn check_seals<F: JournalFile, K: FileKey>(
+    alloc: Global,
+    opening: Opening<F>,
+) -> Result<Opening<F>, JournalFault>
+where
+    F: Drop,
+    requires front { opening.read ≡ 0 }
+    requires file { opening.file ≡ K.file }
+    ensures file { IfOk result (λ o. o.file ≡ K.file) }
+    ensures front { IfOk result (λ o. o.read ≡ 0) }
+    ensures sealed { IfOk result (λ o. IfSome (text_in opening.file) (λ text. (seals_of text).wrong ≡ None)) }
+{
+    let mut reading = Reading::<F, K>::new(opening);
+    let seals = match read_seals(alloc, &mut reading) {
+        Ok(seals) => seals,
+        Err(error) => return Err(read_fault(error)),
+    };
+    if let Some(line) = seals.wrong {
+        return Err(JournalFault::Changed(line));
+    }
+    let mut opening = reading.into_opening();
+    opening.rewind();
+    Ok(opening)
+}
+
 /// Returns the fault for a journal that couldn't be run.
 fn fault_of(fault: RunFault) -> JournalFault {
     match fault {
@@ -191,6 +227,8 @@ where
     ensures times { IfOk result (λ f. IfSome f.history (λ h. KeepsTimes (Some h.timeline) (text_in opening.file))) }
     ensures sound { IfOk result (λ f. IfSome f.history (λ h. IsValidConfig h.config)) }
     ensures agrees { IfOk result (λ f. IfSome f.history (λ h. Agrees given.now wanted.now h.config)) }
+    ensures sealed { IfOk result (λ f. IsSome f.history →
+        IfSome (text_in opening.file) (λ text. (seals_of text).wrong ≡ None)) }
     ensures titled { IfOk result (λ f. IfSome f.history (λ h.
         IfSome (text_in opening.file) (λ text. StartsWith text (title_line h.config)))) }
     ensures resumed { IfOk result (λ f. IfSome f.history (λ h. (rest : Option (List ℕ)) ×
@@ -205,6 +243,7 @@ where
         });
     };
     check_config(given, wanted, &config)?;
+    let opening = check_seals::<F, Brand>(alloc, opening)?;
     let resumed = run_events::<F, Brand>(alloc, config, opening)?;
     Ok(Found {
         opening: resumed.opening,

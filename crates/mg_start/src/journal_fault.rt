@@ -22,6 +22,8 @@ pub enum JournalFault {
     Differs(&'static str),
     #[error("line {0} isn't a line of a script")]
     BadLine(u64),
+    #[error("line {0} is a wrong seal: a line before it was changed")]
+    Changed(u64),
     #[error("cannot be written: {0}")]
     Write(io::Error),
     #[error("out of memory")]
@@ -32,13 +34,21 @@ impl JournalFault {
     /// Reports the fault. Returns the program's exit status, which says whether another start can succeed although
     /// nobody has changed the file.
     pub fn report<E: Write>(&self, path: &FilePath, errors: &mut E) -> Status
-        ensures ends { (result ≡ Status.NoMemory) ⊎ (result ≡ Status.BadJournal) }
+        ensures ends { (result ≡ Status.Failed) ⊎ (result ≡ Status.NoMemory) ⊎ (result ≡ Status.BadJournal) }
     {
         let path = path.as_str();
         let _ = writeln!(errors, "journal {path}: {self}");
         match self {
+            JournalFault::Open(_)
+            | JournalFault::Read(_)
+            | JournalFault::Write(_)
+            | JournalFault::InUse => Status::Failed,
             JournalFault::NoMemory => Status::NoMemory,
-            _ => Status::BadJournal,
+            JournalFault::NoTitle
+            | JournalFault::BadConfig(_)
+            | JournalFault::Differs(_)
+            | JournalFault::BadLine(_)
+            | JournalFault::Changed(_) => Status::BadJournal,
         }
     }
 }

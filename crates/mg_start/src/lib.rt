@@ -19,14 +19,21 @@
 
 mod beginning;
 mod found_journal;
+mod gateway;
 mod history;
 mod journal_fault;
 mod journal_reader;
+mod kept_journal;
 mod prepared;
 mod reading;
+mod requested;
+mod start;
 pub mod theorems;
 
 pub use crate::beginning::begin_journal;
 pub use crate::found_journal::FoundJournal;
+pub use crate::gateway::Gateway;
 pub use crate::journal_fault::JournalFault;
+pub use crate::kept_journal::KeptJournal;
 pub use crate::prepared::{Prepared, prepare};
+pub use crate::requested::Requested;

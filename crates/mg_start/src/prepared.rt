@@ -12,15 +12,14 @@ ghost use Rattle.mg_start.specs.Start.{FailsToStart, Finds, IsChosen, Opens};
 use crate::found_journal::FoundJournal;
 use crate::history::{Found, find};
 use crate::journal_fault::JournalFault;
+use crate::requested::Requested;
 use arrayvec::ArrayVec;
-use mg_arguments::{ConfigFault, Draws, FilePath, Service};
+use mg_arguments::{ConfigFault, FilePath, Service};
 use mg_core::{Config, Core, RunFault, StartFault};
-use mg_host::Journals;
+use mg_host::{Environment, Journals, System};
 use mg_journal::{JournalFile, Opening};
 use mg_options::Status;
-use std::alloc::Global;
 use std::io::{self, ErrorKind, Write};
-use std::random::RandomSource;
 
 /// A gateway and its journal, before the ports are bound and before anything is appended to the journal.
 #[derive(Drop)]
@@ -58,18 +57,16 @@ impl<F: JournalFile> Prepared<F> {
 }
 
 /// Creates a new gateway. If that fails, reports the fault to `errors` and returns the program's exit status.
-fn new_gateway<G: RandomSource, F: JournalFile, E: Write>(
-    random: &G,
-    alloc: Global,
-    config: Config,
-    draws: Draws,
+fn new_gateway<E: Environment, F: JournalFile>(
+    system: &System<'_, E>,
+    requested: Requested<'_>,
     opening: Option<Opening<F>>,
-    errors: &mut E,
+    errors: &mut E::Errors,
 ) -> Result<Prepared<F>, Status>
 where
     F: Drop,
     ensures sound { IfOk result (λ p. IsValidConfig p.config) }
-    ensures drawn { IfOk result (λ p. IsDrawn draws config p.config) }
+    ensures drawn { IfOk result (λ p. IsDrawn requested.entry.draws requested.entry.config p.config) }
     ensures start { IfOk result (λ p. StandsFor p.core.state (start_of p.config)) }
     ensures journal { IfOk result (λ p. IsSome opening → IsSome p.journal) }
     ensures file { IfOk result (λ p. option_map_or (λ j. text_in j.opening.file) p.journal (Some [])
@@ -77,13 +74,14 @@ where
     ensures times { IfOk result (λ p. IfSome p.journal (λ j. IsNone j.timeline)) }
     ensures reached { IfOk result (λ p. p.reached ≡ 0) }
     ensures quiet { OnOk result (errors.new ≡ errors.old) }
-    ensures ends { IfErr result (FailsToStart config) }
+    ensures ends { IfErr result (FailsToStart requested.entry.config) }
 {
+    let config = requested.config;
     if let Some(fault) = ConfigFault::of(&config) {
         let _ = writeln!(errors, "{}: {fault}", RunFault::BadConfig);
         return Err(Status::Usage);
     }
-    let config = match draws.draw(random, config) {
+    let config = match requested.draws.draw(system.random, config) {
         Ok(config) => config,
         Err(error) => {
             let _ = writeln!(errors, "cannot draw random numbers: {error}");
@@ -94,7 +92,7 @@ where
         opening,
         timeline: None,
     });
-    match Core::new(alloc, config) {
+    match Core::new(system.alloc, config) {
         Ok(core) => Ok(Prepared {
             config,
             core,
@@ -108,23 +106,21 @@ where
     }
 }
 
-/// Resumes a gateway from its journal. If the journal is empty, creates a new gateway. If that fails, reports the fault
-/// to `errors` and returns the program's exit status.
-fn resume_or_create<G: RandomSource, F: JournalFile, E: Write>(
-    random: &G,
-    alloc: Global,
-    config: Config,
-    service: &Service,
+/// Resumes a gateway from its journal. If the journal is empty, creates a new gateway. If either fails, reports the
+/// fault to `errors` and returns the program's exit status.
+fn resume_or_create<E: Environment, F: JournalFile>(
+    system: &System<'_, E>,
+    requested: Requested<'_>,
     path: &FilePath,
-    draws: Draws,
     opening: Opening<F>,
-    errors: &mut E,
+    errors: &mut E::Errors,
 ) -> Result<Prepared<F>, Status>
 where
     F: Drop,
     requires front { opening.read ≡ 0 }
     ensures sound { IfOk result (λ p. IsValidConfig p.config) }
-    ensures chosen { IfOk result (λ p. IsChosen (text_in opening.file) service.now.given draws config p.config) }
+    ensures chosen { IfOk result (λ p. IsChosen (text_in opening.file) requested.entry.service.now.given
+        requested.entry.draws requested.entry.config p.config) }
     ensures resumed { IfOk result (λ p. (rest : Option (List ℕ)) ×
         IsResumed p.config (text_in opening.file) rest p.core.state) }
     ensures reached { IfOk result (λ p. HasReached (text_in opening.file) p.reached) }
@@ -132,15 +128,20 @@ where
     ensures times { IfOk result (λ p. IfSome p.journal (λ j. KeepsTimes j.timeline (text_in j.opening.file))) }
     ensures found { IfOk result (λ p. IsSome p.journal) }
     ensures quiet { OnOk result (errors.new ≡ errors.old) }
-    ensures ends { IfErr result (FailsToStart config) }
+    ensures ends { IfErr result (FailsToStart requested.entry.config) }
 {
-    let found = match find(alloc, &service.given, &config, opening) {
+    let found = match find(
+        system.alloc,
+        &requested.service.given,
+        &requested.config,
+        opening,
+    ) {
         Ok(found) => found,
         Err(fault) => return Err(fault.report(path, errors)),
     };
     let Found { opening, history } = found;
     let Some(history) = history else {
-        return new_gateway(random, alloc, config, draws, Some(opening), errors);
+        return new_gateway(system, requested, Some(opening), errors);
     };
     Ok(Prepared {
         config: history.config,
@@ -182,35 +183,32 @@ fn open<H: Journals>(host: &mut H, path: &FilePath) -> Result<Opening<H::File>, 
 /// returns the program's exit status.
 ///
 /// Nothing is sent, and nothing is written to a journal.
-pub fn prepare<H: Journals, G: RandomSource, E: Write>(
-    host: &mut H,
-    random: &G,
-    alloc: Global,
-    config: Config,
-    service: &Service,
-    draws: Draws,
-    errors: &mut E,
-) -> Result<Prepared<H::File>, Status>
+pub fn prepare<E: Environment>(
+    system: &System<'_, E>,
+    host: &mut E::Host,
+    requested: Requested<'_>,
+    errors: &mut E::Errors,
+) -> Result<Prepared<<E::Host as Journals>::File>, Status>
     ensures opened { MatchResult result
-        (λ p. Finds service.now.journal (H.calls host.old) (H.calls host.new)
+        (λ p. Finds requested.entry.service.now.journal (E.Host.calls host.old) (E.Host.calls host.new)
         (option_map_or (λ j. text_in j.opening.file) p.journal (Some [])))
-        (λ status. Opens service.now.journal (H.calls host.old) (H.calls host.new)) }
+        (λ status. Opens requested.entry.service.now.journal (E.Host.calls host.old) (E.Host.calls host.new)) }
     ensures sound { IfOk result (λ p. IsValidConfig p.config) }
     ensures chosen { IfOk result (λ p. IsChosen (option_map_or (λ j. text_in j.opening.file) p.journal (Some []))
-        service.now.given draws config p.config) }
+        requested.entry.service.now.given requested.entry.draws requested.entry.config p.config) }
     ensures resumed { IfOk result (λ p. CanResume (option_map_or (λ j. text_in j.opening.file) p.journal (Some []))
         p.config p.core.state p.reached) }
-    ensures found { IfOk result (λ p. IsSome service.now.journal → IsSome p.journal) }
+    ensures found { IfOk result (λ p. IsSome requested.entry.service.now.journal → IsSome p.journal) }
     ensures times { IfOk result (λ p. IfSome p.journal (λ j. KeepsTimes j.timeline (text_in j.opening.file))) }
     ensures quiet { OnOk result (errors.new ≡ errors.old) }
-    ensures ends { IfErr result (FailsToStart config) }
+    ensures ends { IfErr result (FailsToStart requested.entry.config) }
 {
-    let Some(path) = &service.journal else {
-        return new_gateway(random, alloc, config, draws, None, errors);
+    let Some(path) = &requested.service.journal else {
+        return new_gateway(system, requested, None, errors);
     };
     let opening = match open(host, path) {
         Ok(opening) => opening,
         Err(fault) => return Err(fault.report(path, errors)),
     };
-    resume_or_create(random, alloc, config, service, path, draws, opening, errors)
+    resume_or_create(system, requested, path, opening, errors)
 }

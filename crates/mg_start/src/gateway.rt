@@ -1,0 +1,14 @@
+use mg_arguments::Service;
+use mg_core::{Config, Core};
+use std::alloc::Global;
+
+/// A gateway that can run, with its options.
+#[derive(Drop)]
+pub struct Gateway<'a> {
+    pub alloc: Global,
+    pub config: Config,
+    pub core: Core,
+    /// The number that the journal has reached.
+    pub reached: u32,
+    pub service: &'a Service,
+}

@@ -160,7 +160,7 @@ fn replay<'a>(alloc: Global) -> Result<Command<'a>, Error>
 {
     let about = "Run a script from standard input, and print its answers and packets";
     let command = subcommand(alloc, "replay", about)?.arg(flag(alloc, "flows").help(
-        "Also print, as comments, how each event changes terminations and who hears whom",
+        "Also print, as comments, how each event changes contexts, modes and who hears whom",
     ))?;
     Ok(command)
 }

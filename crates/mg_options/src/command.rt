@@ -6,7 +6,7 @@ use clap::Command;
 use std::alloc::Global;
 
 /// The version of the programs.
-pub const VERSION: &str = "0.4.0";
+pub const VERSION: &str = "0.5.0";
 
 /// The toolchain that proves and builds the programs, as `rt version` prints it. `.ci/dist` checks that the two agree.
 pub const TOOLCHAIN: &str = "rattle-kit-13f logic dac8208d650f15bf";

@@ -24,6 +24,7 @@ lobby_gateway_losses_total{gateway="1"} 1
 lobby_gateway_losses_total{gateway="2"} 2
 lobby_gateway_fenced_total{gateway="2"} 1
 lobby_set_aside_total 1
+lobby_audit_lost_total 4
 """
 # The part of a configuration that names the nodes of a pair.
 PAIR = ", {pair, #{self => 'lobby@127.0.0.1', peer => 'lobby@127.0.0.2'}}"
@@ -68,7 +69,16 @@ class Status(unittest.TestCase):
             "controller 0.2.0: 12 calls in 3 rooms\n"
             "gateway 1 at 10.0.0.10:2944: 5 of 256 terminations, 2 of 64 conferences\n"
             "gateway 2 at 10.0.0.10:2946: 5 of 256 terminations, 2 of 64 conferences\n"
-            "failures: 3 losses of a gateway, 1 refusals of this controller's number, 1 rooms or calls set aside\n", 0))
+            "failures: 3 losses of a gateway, 1 refusals of this controller's number, 1 rooms or calls set aside, "
+            "4 lines of the audit log lost\n", 0))
+
+    def test_a_viewers_token_is_used(self):
+        """Tokens may have names."""
+        viewer = f'{{<<"{TOKEN}">>, viewer, <<"night">>}}'
+        for tokens in (viewer, f'{{<<"another token, unknown">>, operator, <<"Ann">>}}, {viewer}',
+                       f'{viewer}, {{<<"another token, unknown">>, operator}}'):
+            with self.subTest(tokens):
+                self.assertEqual(self.status(tokens=tokens)[1], 0)
 
     def test_a_gateway_is_missing(self):
         self.server.serving = ["2"]

@@ -34,7 +34,7 @@ fail() {
 
 # verify UNIT [FILE]: checks a unit's syntax and that its programs exist. The package need not be installed here.
 verify() {
-    sed "s|=/usr/lib/lobbysorrel\(-controller\)\{0,1\}/|=$here/|" "$here/${2:-$1}" > "$work/$1"
+    sed "s|=\(+\{0,1\}\)/usr/lib/lobbysorrel\(-controller\)\{0,1\}/|=\1$here/|" "$here/${2:-$1}" > "$work/$1"
     systemd-analyze verify --man=no "$work/$1" 2> "$work/said" || true
     [ ! -s "$work/said" ] || fail "systemd-analyze verify: $(cat "$work/said")"
 }

@@ -5,6 +5,7 @@ usage: derived.py FOLDER VERSION SECONDS
 FOLDER gets mg_bridge.1, mg_pace.1, mg_bridge.bash, mg_pace.bash and changelog. They come from the help texts
 (docs/help), the table of exit statuses (docs/OPERATING.md) and CHANGELOG.md. SECONDS since 1970 are their date.
 """
+import calendar
 import re
 import sys
 import textwrap
@@ -142,12 +143,13 @@ def completion(program):
 
 
 def changelog():
-    """The changelog in Debian's form."""
+    """The changelog in Debian's form. Only the newest version has the build's date."""
     text = (ROOT / "CHANGELOG.md").read_text()
-    releases = re.findall(r"^## (\S+), .*\n((?:(?!## ).*\n)*)", text, re.M)
+    releases = re.findall(r"^## (\S+), (.*)\n((?:(?!## ).*\n)*)", text, re.M)
     if not releases or releases[0][0] != VERSION:
         sys.exit(f"CHANGELOG.md doesn't begin with version {VERSION}")
-    for version, body in releases:
+    for version, date, body in releases:
+        seconds = SECONDS if version == VERSION else calendar.timegm(time.strptime(date, "%Y-%m-%d"))
         yield f"lobbysorrel ({version}) unstable; urgency=medium\n"
         for part, items in re.findall(r"^### (.*)\n((?:(?!### ).*\n?)*)", body, re.M):
             yield f"  [ {part} ]"
@@ -155,7 +157,7 @@ def changelog():
                 yield textwrap.fill(" ".join(item.split()), 78, initial_indent="  * ", subsequent_indent="    ",
                                     break_on_hyphens=False)
             yield ""
-        yield time.strftime(f" -- {MAINTAINER}  %a, %d %b %Y %H:%M:%S +0000", time.gmtime(SECONDS))
+        yield time.strftime(f" -- {MAINTAINER}  %a, %d %b %Y %H:%M:%S +0000", time.gmtime(seconds))
 
 
 def main():

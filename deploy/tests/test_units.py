@@ -1,4 +1,5 @@
-"""The programs of the units: run, started, keeper and firewall. A fake systemctl or nft replaces the real one."""
+"""The programs of the units: run, started, keeper, firewall, check-config and cut-journal. A fake systemctl or nft replaces the real one."""
+import fcntl
 import os
 import re
 import socket
@@ -132,7 +133,7 @@ class Started(Scripts):
                 self.assertIsNone(process.poll())
 
     def test_a_gateway_with_several_addresses(self):
-        """It is asked at the first one. Here, it has only this one."""
+        """The script asks at the first address. Here, the gateway has only that one."""
         process, words = self.gateway()
         words += ["--bind-address=127.0.0.1", "--bind-address", "127.0.0.9"]
         self.assertEqual(self.said("started", *words, MAINPID=str(process.pid)), ("", 0))
@@ -184,12 +185,110 @@ class Listens(Scripts):
         self.assertEqual(self.said("listens", MAINPID=str(process.pid)), ("", 0))
 
 
-# Prints the unit's state, and records its orders.
+# A fake systemctl: prints the unit's state, and records other commands in ORDERS.
 SYSTEMCTL = """
 case $1 in
     show) cat "$STATE" ;;
-    *) echo "$*" >> "$ORDERS"; ! [ "$1" = start ] || echo "$(cut -d ' ' -f 1 /proc/uptime)" >> "$ORDERS.starts" ;;
+    *) ! [ "$1" = start ] || echo "$(cut -d ' ' -f 1 /proc/uptime)" >> "$ORDERS.starts"; echo "$*" >> "$ORDERS" ;;
 esac"""
+
+
+@unittest.skipUnless(os.geteuid() == 0, "it needs root")
+class CheckConfig(Scripts):
+    OPTIONS = "--address=192.0.2.1 --control-address=10.0.0.10 --controller=10.0.0.1 --slots=1".split()
+
+    def setUp(self):
+        super().setUp()
+        self.journal = self.folder / "journal.txt"
+
+    def free_ports(self):
+        """Options for two ports that are free."""
+        while True:
+            with socket.socket(type=socket.SOCK_DGRAM) as control, socket.socket(type=socket.SOCK_DGRAM) as media:
+                for port in control, media:
+                    port.bind(("127.0.0.1", 0))
+                control, base = (port.getsockname()[1] for port in (control, media))
+            if base % 2 == 0:
+                return [f"--control-port={control}", f"--base-port={base}"]
+
+    def checked(self, *words):
+        before = self.journal.read_text() if self.journal.exists() else None
+        said, status = self.said("check-config", self.journal, *words)
+        self.assertEqual(self.journal.read_text() if self.journal.exists() else None, before)
+        self.assertEqual([file.name for file in self.folder.iterdir() if file not in (self.journal, self.path)], [])
+        return status, said
+
+    def test_a_gateway_that_would_start(self):
+        """This host doesn't have its addresses, and another program has its port."""
+        options = [*self.OPTIONS, *self.free_ports()]
+        self.assertEqual(self.checked(*options), (0, ""))
+        begin = [DIST / "mg_bridge", "serve", *options, "--bind-address=127.0.0.1", "--journal", self.journal]
+        with subprocess.Popen(begin, stdin=subprocess.PIPE, stdout=subprocess.PIPE, text=True) as other:
+            self.assertEqual(other.stdout.readline(), "ready\n")
+            self.assertEqual(self.checked(*options), (0, ""))
+            other.communicate("tick\nquit\n")
+        self.assertEqual(self.checked(*options), (0, ""))
+
+    def test_a_gateway_that_would_not_start(self):
+        self.journal.write_text("# mg_bridge replay --address=192.0.2.1 --control-address=10.0.0.10 --control-port=2944"
+                                " --base-port=30000 --slots=1 --first-termination=1 --first-context=1 --ssrc=0"
+                                " --sequence=0 --timestamp=0\ntick\n")
+        for changed, status, reason in (
+            ("--slots=2", 6, f"journal {self.journal}: line 1 has another --slots\n"),
+            ("--slot=2", 2, "unexpected argument '--slot' found"),
+        ):
+            with self.subTest(changed):
+                found, said = self.checked(*self.OPTIONS[:-1], changed)
+                self.assertEqual(found, status, said)
+                self.assertIn(reason, said)
+                self.assertTrue(said.endswith("check-config: the gateway would not start\n"), said)
+
+
+class CutJournal(Scripts):
+    def setUp(self):
+        super().setUp()
+        # On a busy machine, the disk can take longer than a test.
+        self.fake("sync", ":")
+        self.journal = self.folder / "journal.txt"
+        self.sealed = self.seal("# mg_bridge replay --slots=2\nticks 10\n")
+        self.rest = "# time 2026-11-27T16:05:23.902Z\ncontrol 127.0.0.1:9 4d\ncontrol 127.0.0.1:9 4e\nticks 10\n"
+
+    def seal(self, text):
+        return subprocess.run([DIST / "mg_bridge", "seal"], input=text, capture_output=True, text=True, check=True).stdout
+
+    def whole(self):
+        """The names and texts of the journals that are kept next to the journal."""
+        return {file.name: file.read_text() for file in self.folder.glob("journal-*.txt")}
+
+    def test_it_is_cut_after_the_last_valid_seal(self):
+        text = self.seal(self.sealed + self.rest).replace("4e", "4f") + "ticks 10\n"
+        self.journal.write_text(text)
+        self.journal.chmod(0o640)
+        said, status = self.said("cut-journal", self.journal)
+        self.assertEqual((status, self.journal.read_text()), (0, self.sealed), said)
+        [(name, kept)] = self.whole().items()
+        self.assertEqual(kept, text)
+        self.assertEqual(self.journal.stat().st_mode & 0o777, 0o640)
+        self.assertEqual(said, f"{self.journal} ends after line 3; {self.folder}/{name} has all lines\n"
+                               f"{self.journal} lacks 2 messages, from 2026-11-27T16:05:23.902Z on\n")
+        self.assertEqual(self.said("cut-journal", self.journal)[1], 1)
+
+    def test_what_is_not_cut(self):
+        changed = self.seal(self.sealed + self.rest).replace("4e", "4f")
+        for name, text, reason in (
+            ("valid", self.sealed + self.rest, "seals hold: 1, the last in line 3; lines after it: 4"),
+            ("no seal", "ticks 10\n", "no seals in 1 lines"),
+            ("no valid seal", self.sealed.replace("10", "11"), "has no valid seal: begin a new journal"),
+            ("in use", changed, f"a gateway uses {self.journal}"),
+        ):
+            self.journal.write_text(text)
+            with self.subTest(name), open(self.journal) as file:
+                if name == "in use":
+                    fcntl.flock(file, fcntl.LOCK_EX)
+                said, status = self.said("cut-journal", self.journal)
+                self.assertEqual((status, self.journal.read_text(), self.whole()), (1, text, {}))
+                self.assertTrue(said.startswith("cut-journal: ") and said.endswith(f"{reason}\n"), said)
+        self.assertEqual(self.said("cut-journal")[1], 2)
 
 
 class Keeper(Scripts):
@@ -245,7 +344,7 @@ class Keeper(Scripts):
         self.soon(lambda: not (self.folder / "pause").exists())
 
     def test_what_needs_a_correction_is_not_started(self):
-        for status in 2, 243:
+        for status in 2, 6, 243:
             with self.subTest(status):
                 self.unit("failed", status=status)
                 keeper = self.keeper()

@@ -199,9 +199,9 @@ uri(Text) ->
             #uri{scheme = lower(Scheme), host = Rest}
     end.
 
-%% Converts only ASCII letters, because messages needn't be valid UTF-8.
-lower(Text) -> list_to_binary(string:to_lower(binary_to_list(Text))).
-upper(Text) -> list_to_binary(string:to_upper(binary_to_list(Text))).
+%% Convert only ASCII letters, because messages needn't be valid UTF-8.
+lower(Text) -> << <<(if Byte >= $A, Byte =< $Z -> Byte + 32; true -> Byte end)>> || <<Byte>> <= Text >>.
+upper(Text) -> << <<(if Byte >= $a, Byte =< $z -> Byte - 32; true -> Byte end)>> || <<Byte>> <= Text >>.
 
 trim(<<Space, Rest/binary>>) when Space =:= $\s; Space =:= $\t -> trim(Rest);
 trim(Text) -> trim_end(Text).

@@ -2,8 +2,16 @@
 # sets `gateway` to PATH or, without the option, to the program in dist/. The other arguments stay in "$@". The script
 # must have set `here` to its own folder and, if it has other arguments, `others` to their names, such as '[CALLERS]'.
 gateway=$here/../../dist/mg_bridge
-case "$# ${1:-}" in
-    '0 ') ;;
-    '2 --gateway') gateway=$2 ;;
-    *) echo 'usage: run.sh [--gateway PATH]' >&2; exit 2 ;;
+others=${others:-}
+if [ "${1:-}" = --gateway ] && [ $# -ge 2 ]; then
+    gateway=$2
+    shift 2
+fi
+case $others:${1:-} in
+    *-*:*) ;;
+    *:-*) set -- $others too many ;;
 esac
+if [ $# -gt "$(echo "$others" | wc -w)" ]; then
+    echo "usage: ${0##*/} [--gateway PATH]${others:+ $others}" >&2
+    exit 2
+fi

@@ -1,6 +1,6 @@
 /* Callers in conferences on a gateway: each sends a 20 ms packet every 20 ms, and receives the packets that it is sent.
-   usage: load CALLERS A_CONFERENCE SECONDS The gateway is on 127.0.0.1, with control port 2944 and media ports from
-   30000 on. */
+   usage: load CALLERS A_CONFERENCE SECONDS
+   The gateway is on 127.0.0.1, with control port 2944 and media ports from 30000 on. */
 #define _GNU_SOURCE
 #include "loopback.h"
 #include <stdint.h>

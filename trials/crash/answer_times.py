@@ -2,7 +2,7 @@
 
 usage: answer_times.py BRIDGE FOLDER
 
-The journal is in FOLDER. A controller sends 1,000 heartbeats one after another, at random intervals.
+The journal is in FOLDER. A controller sends each gateway 1,000 heartbeats one after another, at random intervals.
 """
 import random
 import statistics

@@ -27,8 +27,8 @@ class Caller:
         # When the last packet and the last speech arrived, and the intervals without them: start and length.
         self.last, self.heard = None, None
         self.gaps, self.speech_gaps = [], []
-        # How far the timestamps and the clock have advanced since the first packet, in seconds, and by how much the
-        # timestamps led at each packet.
+        # How far the timestamps have advanced since the first packet, in seconds, when that packet arrived, and by how
+        # much the timestamps led the clock at each packet.
         self.played, self.start, self.leads = 0.0, None, array("d")
 
     def add(self):
@@ -93,7 +93,7 @@ class Calls:
         self.start, self.sent = time.monotonic(), 0
 
     def turn(self):
-        """Sends the frames that are due, and takes what arrives within 2 ms."""
+        """Sends the frames that are due, and takes packets, for which it waits at most 2 ms."""
         while self.start + self.sent * STRIDE <= time.monotonic():
             head = b"\x80\x00" + (self.sent & 0xFFFF).to_bytes(2, "big") + (self.sent * FRAME).to_bytes(4, "big")
             for one in self.callers:

@@ -1,4 +1,5 @@
-"""A conference of eight callers at a gateway, from one host. Prints the longest interval without a packet.
+"""A conference of eight callers at a gateway, from one host. Prints the longest intervals without a packet,
+and without speech.
 
 usage: calls.py GATEWAY OWN SECONDS
 

@@ -66,7 +66,7 @@ class Controller:
             for request in [one for one in self.due if one.mark in reply]:
                 self.take(request, reply)
         except OSError:
-            pass  # Nothing has arrived, or the last request didn't.
+            pass  # Nothing has arrived, or nobody had the gateway's port.
         now = time.monotonic()
         for request in self.due:
             if now - request.first_at > PATIENCE:

@@ -4,9 +4,9 @@ nothing worse than a gap.
 usage: crash.py BRIDGE TERMINATIONS SECONDS KILLS
 
 TERMINATIONS is a multiple of eight. One of them, which a controller adds and removes again and again, is in the first
-conference. The others are callers, eight in each conference. The first sends a tone, from which the last is isolated;
-the others send silence. One kill in five hits a gateway that is starting after another kill. Exits with 1 if a check
-fails.
+conference. The others are callers: seven in the first conference, and eight in each of the others. In each conference,
+the first caller sends a tone, from which the last caller is isolated; all but the first send silence. One kill in five
+hits a gateway that is starting after another kill. Exits with 1 if a check fails.
 """
 import os
 import random

@@ -1,5 +1,5 @@
-"""Cuts a journal at each of its bytes, resumes each part, and compares the gateway with one that replays the whole lines
-of that part.
+"""Cuts a journal after its title and after each later byte, resumes each part, and compares the gateway with one that
+replays the whole lines of that part.
 
 usage: cuts.py BRIDGE
 
@@ -46,11 +46,11 @@ def audit_after(lines, source):
 
 
 def journal_of(folder, socket, control, base):
-    """Makes a journal."""
+    """Makes a journal without dates, checksums and notes of missed ticks."""
     path = os.path.join(folder, "journal.txt")
     options = ["--control-port", str(control), "--base-port", str(base), "--slots", "8"]
     messages = [f"MEGACO/1 [127.0.0.1]:2945 Transaction={n + 1}{{{edit}}}" for n, edit in enumerate(EDITS)]
-    # Ticks between the messages, and then enough to write them all.
+    # Each message has a session of its own, with ticks after it.
     for message in messages:
         status, errors, answers = exchange(BRIDGE, path, options, [message], socket, control, "tick\n" * 50)
         if status or not answers or "Error" in answers[0]:

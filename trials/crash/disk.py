@@ -1,4 +1,4 @@
-"""Fills the disk with the journal of a gateway, and checks what a controller and a caller see.
+"""Fills the disk on which a gateway's journal is, and checks what a controller and a caller see.
 
 usage: disk.py BRIDGE
 
@@ -60,7 +60,7 @@ class Live:
         return None
 
     def members(self):
-        """The terminations."""
+        """The terminations in context 1."""
         audit = f"MEGACO/1 [127.0.0.1]:2945 Transaction={next(AUDITS)}{{Context=1{{AuditValue=*{{Audit{{}}}}}}}}"
         return re.findall(r"RTP/\d+", self.ask(audit))
 
@@ -95,7 +95,7 @@ def until_full(gateway):
 
 
 def fill_and_free(journal, disk, gateway, caller):
-    """Returns the message that got no answer, and the answer that it got when the disk had room."""
+    """Returns the message that got no answer at first, and its answer when the disk had room."""
     check(gateway.ask(ADD % (1, "$", caller.getsockname()[1])), "no answer")
     filler = fill(disk)
     message = until_full(gateway)

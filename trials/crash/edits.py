@@ -10,8 +10,8 @@ PERIOD = 0.1
 
 class Edits:
     """Edits the conference in context 1 ten times a second: adds a termination, sets it to listen, isolates it from the
-    first member, audits the conference and subtracts it. Ends the trial if the answers show that a request was forgotten
-    or handled twice."""
+    first member, audits the conference and subtracts the termination. Ends the trial if the answers show that a request
+    was forgotten or handled twice."""
 
     def __init__(self, controller, members, newest):
         """`members` is how many members stay. The first is isolated from the last. `newest` is the highest termination."""
@@ -28,7 +28,7 @@ class Edits:
             self.controller.request(self.edit())
 
     def step(self):
-        """Which of the five edits was the last."""
+        """Which of the five edits was the last one or, in `edit`, is the next one."""
         return self.made % 5
 
     def edit(self):
@@ -40,7 +40,8 @@ class Edits:
                 "Context=1{ContextAudit{Topology},AuditValue=*{Audit{Media}}}")[self.step()]
 
     def check(self, reply):
-        """Checks the answer to the last edit. A request that is handled twice leaves a hole in the terminations' numbers."""
+        """Checks the answer to the last edit, if that was an Add or an audit. An Add that is handled twice leaves a
+        hole in the terminations' numbers."""
         if self.step() == 1:
             self.newest += 1
             if f"Add=RTP/{self.newest}{{" not in reply:

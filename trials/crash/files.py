@@ -5,6 +5,7 @@ usage: files.py BRIDGE
 Needs root to run a gateway as another user. Exits with 1 if a check fails.
 """
 import os
+import random
 import subprocess
 import sys
 import tempfile
@@ -26,7 +27,8 @@ def title(control, base, slots=SLOTS):
 
 
 def files(folder, control, base):
-    """Files that aren't journals of this gateway: each has its own message, and stays unchanged."""
+    """Files that aren't journals of this gateway are refused, and stay unchanged. A title, or a part of one, begins
+    a journal."""
     options = ["--control-port", str(control), "--base-port", str(base), "--slots", str(SLOTS)]
     head = title(control, base)
     cases = {
@@ -52,11 +54,42 @@ def files(folder, control, base):
         status, errors, _ = exchange(BRIDGE, path, options, [], None, control)
         check(status == 0, f"{name}: {status} {errors!r}")
     status, errors, _ = exchange(BRIDGE, folder, options, [], None, control)
-    check(status == 6 and "Is a directory" in errors, f"a folder: {status} {errors!r}")
+    check(status == 3 and "Is a directory" in errors, f"a folder: {status} {errors!r}")
     path = os.path.join(folder, "none", "journal.txt")
     status, errors, _ = exchange(BRIDGE, path, options, [], None, control)
-    check(status == 6 and "No such file or directory" in errors, f"no folder: {status} {errors!r}")
+    check(status == 3 and "No such file or directory" in errors, f"no folder: {status} {errors!r}")
     print(f"{len(cases) + 5} files: each is refused with its own message, or begins or continues a journal")
+
+
+def flips(folder, control, base):
+    """A journal in which a bit was flipped before the last seal is refused."""
+    path = os.path.join(folder, "flipped")
+    words = [BRIDGE, "serve", "--journal", path, "--control-port", str(control), "--base-port", str(base), "--slots", str(SLOTS)]
+
+    def serve(text):
+        done = subprocess.run(words, input=text, capture_output=True)
+        return done.returncode, done.stderr.decode()
+
+    for _ in range(4):
+        check(serve(b"tick\n" * 30 + b"quit\n")[0] == 0, "no journal")
+    with open(path, "rb") as file:
+        whole = file.read()
+    last = whole.rindex(b"# sha256 ")
+    chosen = random.Random(1)
+    reasons = {}
+    for _ in range(300):
+        at, bit = chosen.randrange(last), chosen.randrange(8)
+        changed = bytearray(whole)
+        changed[at] ^= 1 << bit
+        with open(path, "wb") as file:
+            file.write(changed)
+        status, errors = serve(b"quit\n")
+        check(status == 6, f"bit {bit} of byte {at}: {status} {errors!r}")
+        with open(path, "rb") as file:
+            check(file.read() == changed, f"bit {bit} of byte {at}: the file was changed")
+        reason = "a seal" if "is a wrong seal" in errors else "a line"
+        reasons[reason] = reasons.get(reason, 0) + 1
+    print("300 journals with a flipped bit: all refused,", ", ".join(f"{n} because of {it}" for it, n in sorted(reasons.items())))
 
 
 def locked(folder, control, base):
@@ -68,7 +101,7 @@ def locked(folder, control, base):
     os.chmod(folder, 0o755)
     done = subprocess.run(["setpriv", "--reuid=65534", "--regid=65534", "--clear-groups", BRIDGE, "serve", "--journal", path],
                           input=b"quit\n", capture_output=True)
-    check(done.returncode == 6 and b"Permission denied" in done.stderr, f"permission: {done}")
+    check(done.returncode == 3 and b"Permission denied" in done.stderr, f"permission: {done}")
     print("a file without permission is refused")
 
 
@@ -76,6 +109,7 @@ def main():
     with tempfile.TemporaryDirectory() as folder:
         control, base = free_ports(SLOTS)
         files(folder, control, base)
+        flips(folder, control, base)
         locked(folder, control, base)
 
 

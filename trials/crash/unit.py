@@ -10,7 +10,7 @@ RESTART = 0.1
 
 
 class Unit:
-    """A gateway with a journal, which is restarted after each kill."""
+    """A gateway with a journal. It is restarted after each kill."""
 
     def __init__(self, bridge, slots, journal, errors):
         self.control, base = free_ports(slots)

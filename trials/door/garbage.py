@@ -50,7 +50,7 @@ def http():
 
 
 def joining(link):
-    """A browser's offer, by a link."""
+    """A browser's request to join with a link."""
     body = ("v=0\r\no=- 1 1 IN IP4 127.0.0.1\r\ns=-\r\nt=0 0\r\na=group:BUNDLE 0\r\nm=audio 9 UDP/TLS/RTP/SAVPF 0 8\r\n"
             "c=IN IP4 0.0.0.0\r\na=ice-ufrag:abcd\r\na=ice-pwd:abcdefghijklmnopqrstuvwx\r\n"
             f"a=fingerprint:sha-256 {':'.join(['AB'] * 32)}\r\na=setup:actpass\r\na=mid:0\r\na=sendrecv\r\na=rtcp-mux\r\n")
@@ -82,7 +82,7 @@ def connections(port, message):
 
 
 def size(door):
-    """Bytes and processes of the node, after all processes have collected their garbage."""
+    """Bytes, processes and atoms of the node, after all processes have collected their garbage."""
     text = door.evaluate("[garbage_collect(P) || P <- processes()], {erlang:memory(total), erlang:system_info(process_count), "
                          "erlang:system_info(atom_count)}.")
     return [int(number) for number in re.findall(r"\d+", text)]

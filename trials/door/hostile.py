@@ -26,7 +26,7 @@ BOMBS = [("Contact", "<sip:a@b>", 5800), ("Contact", "<sip:a@b>", 140), ("Route"
 
 
 class Guarded(Door):
-    """A controller with the default limits, without checks whether it still runs."""
+    """A controller with default limits on messages, higher ones on calls and rooms, and no checks of silent callers."""
     limits = ("{max_calls_from, 250}, {max_rooms_from, 40}, {silent_after, 3600000}, "
               "{tls, #{certificate => \"certificate.pem\", key => \"key.pem\", sip => {{127,0,0,1},%d}}}")
 

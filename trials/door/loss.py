@@ -59,7 +59,7 @@ def sipp(door, port, *options):
 
 
 def over(door):
-    """How long it takes until no caller is left, and whether the gateway then has only the controller's termination."""
+    """Whether no caller is left within 40 s, and the gateway then has only the controller's termination."""
     took = until(lambda: not door.members("100"), 40)
     gateway, = door.ask("GET", "/gateways")["gateways"]
     return took is not None and gateway["terminations"] == 1 and gateway["contexts"] == 1

@@ -2,8 +2,8 @@
 
 usage: package.py DEBIAN WORK
 
-DEBIAN is a folder with a Debian system that has the packages that this one depends on. It is booted in a container, on
-an overlay in the folder WORK. Prints one line for each check, and exits with 1 if one fails.
+DEBIAN is a folder with a Debian system that has the packages that the controller's package depends on. It is booted in
+a container, on an overlay in the folder WORK. Prints one line for each check, and exits with 1 if one fails.
 """
 import re
 import socket
@@ -23,8 +23,8 @@ HERE = "192.0.2.20"
 
 
 def build(packages):
-    """Builds both packages, the controller's twice, and a controller's package with a higher version, which it
-    returns."""
+    """Builds both packages, the controller's twice, and the controller's with a higher version. Returns that
+    version."""
     ran(ROOT / "deploy/package.sh", packages)
     built = [Path(ran(ROOT / "deploy/controller-package.sh", folder)) for folder in (packages, WORK / "again")]
     same = built[0].read_bytes() == built[1].read_bytes()

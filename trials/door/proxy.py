@@ -1,6 +1,6 @@
 """Three baresips behind a NAT call a room through Kamailio and rtpengine, with the files in deploy/proxy: with RTP,
 with SRTP over TCP, and with DTLS-SRTP and ICE, as a browser would. Each hears the others. One is isolated, and hears
-nobody. A gateway is killed, and they hear each other on the other gateway. At the end, all calls are ended.
+nobody. A gateway is killed: on the other one, those who are not isolated hear each other. At the end, all calls end.
 
 Each host is its own network namespace; the controller and the gateways share one. It needs root, and the Debian
 packages kamailio, rtpengine-daemon, iptables and baresip-core.
@@ -26,7 +26,7 @@ def run(*words):
 
 
 class Host:
-    """A host in its own network, which ends with a process. `own`: the network of this trial."""
+    """A host in its own network, which ends with a process. `own`: the host uses this trial's network instead."""
 
     def __init__(self, folder, own=False):
         self.folder, self.processes, self.prefix, self.number = folder, [], [], os.getpid()

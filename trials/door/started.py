@@ -1,4 +1,4 @@
-"""Starts ./lobby and ends it by SIGTERM, by Ctrl-C, and by the end of each of its programs: no process may be left. It
+"""Starts ./lobby and ends it by SIGTERM, SIGINT, SIGHUP, and by killing the controller: no process may be left. It
 must print who may call, and the gateway must accept packets only from a caller's own port.
 
 It needs the ports of controller/lobby.config, so run it in a network namespace.

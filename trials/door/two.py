@@ -83,7 +83,7 @@ class Node:
         self.process.send_signal(number)
 
     def stop(self):
-        """Waits until none of its threads runs, which takes a moment on a busy machine."""
+        """Stops the node, and waits until none of its threads runs: on a busy machine, that takes a moment."""
         self.signal(signal.SIGSTOP)
         tasks = Path(f"/proc/{self.process.pid}/task")
         until(lambda: all(") T " in (task / "stat").read_text() for task in tasks.iterdir()), step=0.001)
@@ -264,8 +264,8 @@ class Conference:
         return time.monotonic() - start if caller.pong else None
 
     def holds(self, what):
-        """Checks that the conference has the same members and context, nobody hears what he may not hear, and packets
-        never stopped."""
+        """Checks that the conference has the same members and context, and each hears exactly whom he may. Prints the
+        longest time between two packets."""
         self.loop.run(1.5)
         leaks = sum(loudness(payload, self.isolated.pitch) > 100 for phone in self.phones for _, payload in phone.heard)
         gaps = [later - earlier for phone in self.phones for (earlier, _), (later, _) in zip(phone.heard, phone.heard[1:])]

@@ -1,8 +1,8 @@
 #!/usr/bin/env python3
 """Plants wrong bodies in a copy of the controller, one at a time, and runs the test that must notice each. Before that,
 these tests must pass on the unchanged controller. Some need a machine that isn't busy: a test is run up to three times
-until it passes, and must fail twice on a wrong body. For a search, the trial prints how deep it went before it found a
-broken promise, and how many states it had seen.
+until it passes, and must fail twice on a wrong body (a search, once). For a search, the trial prints how deep it went
+before it found a broken promise, and how many states it had seen.
 
 usage: wrong_bodies.py [--check | NAME..]
 Without names, all wrong bodies are planted. It exits with status 1 if one isn't noticed. Before that, and with --check
@@ -627,7 +627,7 @@ def main():
     with tempfile.TemporaryDirectory() as folder:
         copy = pathlib.Path(folder) / "controller"
         shutil.copytree(CONTROLLER, copy, ignore=shutil.ignore_patterns("_build"))
-        #  A wrong body may leave a variable unused.
+        # A wrong body may leave a variable unused.
         config = copy / "rebar.config"
         config.write_text(config.read_text().replace("warnings_as_errors, ", ""))
         compile_all(copy, "the controller")

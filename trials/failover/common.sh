@@ -1,8 +1,6 @@
 # Starts gateways on this host, callers who follow a controller, and the controller in `demo`. run.sh and cost.sh
 # source it after gateway_option.sh.
 root=$here/../..
-bridge=${BRIDGE:-$root/crates/mg_bridge/out/mg_bridge}
-[ -x "$bridge" ] || (cd "$root/crates/mg_bridge" && rt run -- --help > /dev/null)
 work=$(mktemp -d)
 trap 'kill $(jobs -p) 2> /dev/null || true; rm -rf "$work"' EXIT
 gcc -O2 -Wall -o "$work/callers" "$here/callers.c"
@@ -28,7 +26,7 @@ declare -A process
 start() {
     numbers=$(date +%s)
     : > "$work/$1.out"
-    $policy "$bridge" live --control-port $((12944 + 2 * $1)) --base-port $((13000 + 512 * $1)) --controller 127.0.0.1 \
+    $policy "$gateway" live --control-port $((12944 + 2 * $1)) --base-port $((13000 + 512 * $1)) --controller 127.0.0.1 \
         --first-termination "$numbers" --first-context "$numbers" > "$work/$1.out" 2>> "$work/$1.errors" &
     process[$1]=$!
 }

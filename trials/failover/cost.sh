@@ -5,8 +5,10 @@
 # usage: cost.sh [--gateway PATH] [SECONDS] [TURNS]
 # It needs what run.sh needs.
 set -eu
-seconds=${1:-30} turns=${2:-3}
 here=$(CDPATH= cd -- "$(dirname -- "$0")" && pwd)
+others='[SECONDS] [TURNS]'
+. "$here/../gateway_option.sh"
+seconds=${1:-30} turns=${2:-3}
 . "$here/common.sh"
 
 # Prints the clock ticks of processor time that the gateways used.

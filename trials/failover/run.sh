@@ -7,6 +7,7 @@
 # (erlang-base, erlang-megaco), and takes half a minute.
 set -eu
 here=$(CDPATH= cd -- "$(dirname -- "$0")" && pwd)
+. "$here/../gateway_option.sh"
 . "$here/common.sh"
 
 # after WHAT COMMAND ..: runs a command at a random moment between two audits, gives the controller and the callers five

@@ -8,7 +8,7 @@ from loopback import free_ports, udp
 
 ADD = ("Add=${Media{LocalControl{Mode=SendReceive},Local{v=0\nc=IN IP4 $\nm=audio $ RTP/AVP 0\n},"
        "Remote{v=0\nc=IN IP4 %s\nm=audio %d RTP/AVP 0\n}}}")
-# How many terminations one message adds.
+# The maximum number of terminations that one message adds.
 A_REQUEST = 16
 
 

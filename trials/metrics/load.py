@@ -90,7 +90,7 @@ class Load(threading.Thread):
         self.silent.wait()
 
     def end(self):
-        """Receives the packets that are still in flight."""
+        """Receives the packets that are still in flight, and ends the thread."""
         time.sleep(5 * STRIDE)
         self.ended.set()
         self.join()

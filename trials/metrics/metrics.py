@@ -4,9 +4,9 @@ usage: metrics.py WORD ..
 
 The words start mg_bridge, and the last one is its path. Two gateways write files, which a node_exporter reads every
 second for a Prometheus with the rules in deploy/prometheus. The first gateway has 64 callers in four conferences. One
-of them loses 1 packet in 25, and strangers send too. The second one is sent datagrams with each result. The trial
-compares the metrics with what it sent, and then kills the first gateway. Prints a line for each check, and exits with 1
-if one fails.
+of the callers loses 1 packet in 25, and strangers send too. The second gateway is sent datagrams with each result. The
+trial compares the metrics with what it sent, and then kills the first gateway. Prints a line for each check, and exits
+with 1 if one fails.
 """
 import re
 import socket
@@ -207,7 +207,7 @@ def results(gateway):
     # Without a Local, the answer has no port: the termination has the next one.
     gateway.ask("Context=1{%s}" % (ADD.replace(LOCAL, "") % deaf.remote))
     deaf.port, unheld = caller.port + 2, gateway.ports[-1]
-    # Waits until a file has the lost packets, so that the late one could make their number fall.
+    # Waits until a file counts the lost packets: then a late packet that lowered their number would be noticed.
     moment = time.time()
     while gateway.written() < moment + 1:
         caller.speak()
@@ -252,7 +252,7 @@ def scraped(prometheus, gateways):
 
     names = ("terminations", "slots", "control_messages_total", "datagrams_sent_total")
     due = {name: {gateway.name: Exposition(gateway.text())[name] for gateway in gateways} for name in names}
-    # Only counters that rise differ for a second.
+    # Counters that rise differ for a second, so only gauges are compared.
     same = wait(lambda: stored("slots") == due["slots"] and stored("terminations") == due["terminations"], PERIOD)
     check("Prometheus has both gateways", same is not None and stored("contexts").keys() == due["slots"].keys(),
           f"terminations {sorted(stored('terminations').values())}")
@@ -275,7 +275,7 @@ def alert(prometheus, names, what, *labels):
 
 
 def ended(prometheus, gateway):
-    """Kills a gateway, and waits for the alerts. Then deletes its file, as systemd does, and waits for another."""
+    """Kills a gateway, and waits for the alerts. Then deletes its file, as systemd does, and waits for others."""
     gateway.kill()
     alert(prometheus, {"LobbysorrelFileStale"}, {("LobbysorrelFileStale", str(gateway.link))}, "file")
     alert(prometheus, {"LobbysorrelNoTicks"}, {("LobbysorrelNoTicks", gateway.name)}, "gateway")

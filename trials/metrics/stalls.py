@@ -8,7 +8,7 @@ programs write and sync there all the time. Prints how late the packets were aga
 time of arrival. The earliest packet of each caller counts as in time.
 
 A gateway writes only five files in this time, so the trial also measures how long 1,000 such files take. The gateway
-sends nothing while it writes one. It measures, and judges nothing.
+sends nothing while it writes one. The trial measures, and judges nothing.
 """
 import os
 import socket
@@ -28,7 +28,7 @@ RATE = 8000
 FILES, FILE_BYTES = 1000, 100_000
 PARTS = (("half", 0.5), ("99 %", 0.99), ("99.9 %", 0.999), ("greatest", 1))
 MEMORY = "/dev/shm"
-# Linux' number for a socket option, which Python's `socket` lacks.
+# The number of one of Linux's socket options, which Python's `socket` lacks.
 SO_TIMESTAMPNS = 35
 # Writes 16 MB again and again, and syncs each MB and the folder.
 WRITER = """

@@ -52,7 +52,7 @@ def main():
     frame, heard = tone(PITCH), []
     start = time.monotonic()
     for n in range(PACKETS):
-        # B's packets, which are silence, would keep the path through B's own NAT, and count as speech, too.
+        # B's packets, which are silence, would keep the path through B's own NAT open, and count as speech, too.
         for caller, to, speech in ((a, to_a, frame), (b, to_b, b"\xff" * FRAME)):
             caller.sendto(struct.pack("!BBHII", 0x80, 0, n, n * FRAME, to) + speech, (GATEWAY, to))
         time.sleep(max(0, start + (n + 1) / PACKETS - time.monotonic()))

@@ -64,7 +64,7 @@ class Call:
         self.source = self.packet()[0]
 
     def listen(self, port):
-        """Opens the caller's port. After a boot, it is in another network."""
+        """Opens the caller's port, which is needed again after each boot, in the new network."""
         self.socket = socket.socket(socket.AF_INET, socket.SOCK_DGRAM)
         self.socket.setsockopt(socket.IPPROTO_IP, socket.IP_RECVTOS, 1)
         self.socket.bind((CALLER, port))

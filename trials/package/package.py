@@ -40,7 +40,7 @@ def page_commands():
 
 
 def build(packages):
-    """Builds the package twice, and a package with a higher version, which it returns."""
+    """Builds the package twice, and another with a higher version. Returns that version."""
     built = [Path(ran(ROOT / "deploy/package.sh", folder)) for folder in (packages, WORK / "again")]
     same = built[0].read_bytes() == built[1].read_bytes()
     check(f"built {built[0].name}, {built[0].stat().st_size:,} bytes; a second build has the same bytes: {same}", same)
@@ -128,7 +128,7 @@ def logged(system, unit, *texts):
 
 
 def wrong_start(system, what, name, options, status, said):
-    """Starts a gateway with wrong options. The start must fail, the unit must have failed, and its log must say why."""
+    """Starts a gateway that can't serve. The start must fail, the unit must have failed, and its log must say why."""
     unit = f"lobbysorrel@{name}"
     if options is not None:
         system.run(f"echo '{options}' > /etc/lobbysorrel/{name}.env")
@@ -194,11 +194,11 @@ def full_disk(system):
     check(f"with a full disk: {answered} messages are answered, then none; appends fail: {fails}; it still runs: {same}",
           answered < 100 and fails and same)
     done = system.tried("systemctl restart lobbysorrel@3")
-    state, status = system.show("lobbysorrel@3", "ActiveState", "ExecMainStatus")
+    failed = soon(lambda: system.show("lobbysorrel@3", "ActiveState", "ExecMainStatus") == ["failed", "3"], 20)
     system.run(f"rm {folder}/fill")
     serves = soon(lambda: system.show("lobbysorrel@3", "ActiveState") == ["active"], 20)
-    check(f"a restart then fails with {done.returncode}: {state}, status {status}; once there is space, it serves: {serves}",
-          done.returncode and (state, status) == ("failed", "6") and serves)
+    check(f"a restart then fails with {done.returncode}, and the gateway with 3: {failed}; once there is space, it serves: "
+          f"{serves}", done.returncode and failed and serves)
     system.run(f"systemctl stop lobbysorrel@3; umount {folder}; rm /etc/lobbysorrel/3.env")
 
 
@@ -241,7 +241,7 @@ def crashes(system):
 
 
 def revive(system, what, script):
-    """Runs a script that ends the first gateway and starts it again, during a call. Returns how long this took."""
+    """Runs a script that makes the first gateway restart, during a call. Returns how long this took."""
     call = Call()
     start = time.monotonic()
     system.run(script)
@@ -329,6 +329,26 @@ def new_journal(system):
     revive(system, "systemctl restart with the new journal", "systemctl restart lobbysorrel@1")
 
 
+def reload(system):
+    """A reload restarts the gateway unless it wouldn't start."""
+    options = "/etc/lobbysorrel/1.env"
+    system.run(f"cp {options} /tmp/1.env; sed -i 's/^OPTIONS=/OPTIONS=--slots 4 /' {options}")
+    call = Call()
+    main = system.show("lobbysorrel@1", "MainPID")
+    done = system.tried("systemctl reload lobbysorrel@1")
+    reason = logged(system, "lobbysorrel@1", "line 1 has another --slots")
+    same, changed = system.show("lobbysorrel@1", "MainPID") == main, call.changed()
+    check(f"systemctl reload with a wrong option: status {done.returncode}; the reason is logged: {reason}; it still runs: "
+          f"{same}; changed in the call: {changed}", done.returncode and reason and same and changed == "nothing")
+    call.end()
+    system.run(f"sed 's/^OPTIONS=/OPTIONS=--late 7 /' /tmp/1.env > {options}")
+    restarts = "systemctl reload lobbysorrel@1; sleep 2"
+    revive(system, "systemctl reload with another option", restarts)
+    other = system.show("lobbysorrel@1", "MainPID") != main
+    check(f"it was restarted: {other}", other)
+    system.run(f"cp /tmp/1.env {options}; {restarts}")
+
+
 def upgrade(system, version):
     system.run("echo 'DRAIN=600' >> /etc/lobbysorrel/1.env; systemctl restart lobbysorrel@1; systemctl stop lobbysorrel@2")
     files = "md5sum /etc/lobbysorrel/*.env /etc/lobbysorrel/*.nft"
@@ -392,6 +412,7 @@ def main():
         reboot(system)
         drain(system)
         new_journal(system)
+        reload(system)
         upgrade(system, version)
         crashes(system)
         remove(system, before)

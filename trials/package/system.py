@@ -53,7 +53,8 @@ class System:
 
     def boot(self):
         """Boots the system, waits until everything has started, and enters its network."""
-        # A systemd on this host gives the container a scope. Without one, it stays in this process's control group.
+        # A systemd on this host gives the container a scope. Without it, the container stays in this process's control
+        # group.
         scope = [] if Path("/run/systemd/system").exists() else ["--keep-unit"]
         self.process = subprocess.Popen(
             ["systemd-nspawn", "--quiet", "--register=no", *scope, "--private-network", "--link-journal=no", "--boot",

@@ -32,7 +32,7 @@ def commands(page):
 
 # The text that demo/hear prints before a second attempt, and its exit status if that couldn't be judged, either.
 AGAIN, BUSY = "It is tried once again.\n\n", 3
-# The replacement for `dist/mg_bridge`.
+# The function that replaces `dist/mg_bridge`.
 TRY = 'mg_bridge() { (cd crates/mg_bridge && rt try -- "$@"); }\n'
 
 
@@ -47,7 +47,7 @@ def main():
                     continue
                 typed = TRY + command.replace("dist/mg_bridge", "mg_bridge") if unproved else command
                 run = subprocess.run(["bash", "-c", typed], stdout=subprocess.PIPE, stderr=subprocess.PIPE, text=True)
-                # Only the output of a second attempt counts.
+                # If there was a second attempt, only its output counts.
                 holds = run.stdout.rpartition(AGAIN)[2] in shown
                 skipped = command.startswith("demo/hear") and run.returncode == BUSY
                 wrong += not holds and not skipped

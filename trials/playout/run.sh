@@ -5,7 +5,5 @@
 # It needs python3, and tests the program in dist/, or the one at PATH. It takes a few seconds.
 set -eu
 here=$(CDPATH= cd -- "$(dirname -- "$0")" && pwd)
-root=$here/../..
-bridge=$root/crates/mg_bridge/out/mg_bridge
-[ -x "$bridge" ] || (cd "$root/crates/mg_bridge" && rt run -- --help > /dev/null)
-exec python3 "$here/callers.py" "$bridge"
+. "$here/../gateway_option.sh"
+exec python3 "$here/callers.py" "$gateway"

@@ -138,7 +138,7 @@ class Load:
 
 
 class Reader:
-    """Reads a gateway's output into a list until the end."""
+    """Reads a gateway's output into a list, until the output ends or `end` is called."""
 
     def __init__(self, gateway, recording):
         self.gateway, self.recording, self.ended = gateway, recording, threading.Event()

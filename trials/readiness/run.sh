@@ -6,10 +6,9 @@
 # a minute.
 set -eu
 here=$(CDPATH= cd -- "$(dirname -- "$0")" && pwd)
-root=$here/../..
-bridge=$root/crates/mg_bridge/out/mg_bridge
+others='[SCHEDULES] [SEED]'
+. "$here/../gateway_option.sh"
 work=$(mktemp -d)
 trap 'rm -rf "$work"' EXIT
-[ -x "$bridge" ] || (cd "$root/crates/mg_bridge" && rt run -- --help > /dev/null)
 gcc -O2 -Wall -Wextra -shared -fPIC -o "$work/refuse.so" "$here/../refusals/refuse.c"
-PYTHONPATH=$here/.. python3 "$here/schedules.py" "$bridge" "$work/refuse.so" "${1:-10000}" "${2:-1}"
+PYTHONPATH=$here/.. python3 "$here/schedules.py" "$gateway" "$work/refuse.so" "${1:-10000}" "${2:-1}"

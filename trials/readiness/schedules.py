@@ -5,8 +5,9 @@ usage: schedules.py BRIDGE LIBRARY SCHEDULES SEED
 A schedule consists of bursts and polls in random order. A burst goes to one port; some have 64 datagrams, as many as a
 poll receives from a port, and some have one more or 64 more. The schedule does not wait for the gateway, so that
 datagrams arrive while it polls. Then the gateway is polled as often as the fullest port needs, and must have counted
-each datagram once. The schedule's messages must be answered in the order in which they were sent. A session has a
-hundred schedules. In two out of three sessions, a call fails: a receive, or the call that asks which sockets are ready.
+each datagram once. The schedule's messages must be answered in the order in which they were sent. A session has up to a
+hundred schedules. In about two thirds of the sessions, a call is to fail: a receive, or one that asks which sockets are
+ready.
 Exits with 1 at the first failure.
 """
 import os

@@ -1,6 +1,6 @@
-/* Callers in conferences on a gateway, each of whom sends a 20 ms packet every 20 ms, and a controller that makes a
-   change ten times a second. Writes what they sent and what they received to two files (streams.h), and prints how
-   much that was.
+/* Callers in conferences on a gateway, each of whom sends a 20 ms packet every 20 ms, and a controller that makes up to
+   ten changes a second. Writes counts and hashes of what they sent and of what they received to two files (streams.h),
+   and prints how much that was.
    usage: calls CALLERS SECONDS SENT CAME
    The choices are pseudo-random, but the same in each run. */
 #define _GNU_SOURCE
@@ -14,7 +14,7 @@ enum { MOST = 256, A_CONFERENCE = 32, FULL = 64, PACKET = 172, ANSWER = 65536, B
 
 struct caller {
     int socket, payload_type;
-    int conference, termination;  /* 0 if it has hung up */
+    int conference, termination;  /* the latter is 0 if the caller has hung up */
     int port;                     /* the gateway's port that it sends to */
 };
 
@@ -22,7 +22,8 @@ static struct stream to_gateway[STREAMS], from_gateway[STREAMS];
 static struct caller callers[MOST];
 static int count, conferences, contexts[MOST], members[MOST], control, poll;
 
-/* The last request: its number, the caller that it adds, how many answers are expected, and when it was sent. */
+/* The last request: its number, how many answers are still due, whether one has come, whom it adds, and when it was
+   sent. */
 static int transaction, awaited, is_told;
 static struct caller *added;
 static double asked;

@@ -8,6 +8,9 @@
 # It tests the program in dist/, or the one at PATH. It needs gcc, and 1.5 GB for ten minutes of 128 callers. Exits with
 # 0 if every check passes.
 set -euo pipefail
+here=$(CDPATH= cd -- "$(dirname -- "$0")" && pwd)
+others='[--wrong[=KIND]] [SECONDS] [CALLERS]'
+. "$here/../gateway_option.sh"
 wrong='' wanted=0
 case ${1:-} in
 --wrong) wrong=rtp ;;
@@ -18,7 +21,6 @@ if [ -n "$wrong" ]; then
     shift
 fi
 seconds=${1:-60} callers=${2:-128}
-here=$(CDPATH= cd -- "$(dirname -- "$0")" && pwd)
 . "$here/common.sh"
 
 start --record
@@ -51,7 +53,7 @@ compare() {
 }
 recording | "$work/lines" > "$work/recorded"
 begun=$SECONDS
-recording "$wrong" | "$bridge" "${words[@]:2}" | "$work/lines" > "$work/replayed"
+recording "$wrong" | "$gateway" "${words[@]:2}" | "$work/lines" > "$work/replayed"
 took=$((SECONDS - begun)) status=0
 printf '%d events, ' "$(grep -vc '^#' "$work/out")"
 printf '%d of them datagrams, recorded beside sent: ' "$(grep -c '^rtp\|^control' "$work/out")"

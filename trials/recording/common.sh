@@ -2,8 +2,6 @@
 # callers there are. Recordings go into a new folder in TMPDIR or /tmp, which is removed at the end. They take 70 MB per
 # caller and hour.
 root=$here/../..
-bridge=${BRIDGE:-$root/crates/mg_bridge/out/mg_bridge}
-[ -x "$bridge" ] || (cd "$root/crates/mg_bridge" && rt run -- --help > /dev/null)
 work=$(mktemp -d)
 trap 'kill $(jobs -p) 2> /dev/null || true; rm -rf "$work"' EXIT
 for program in calls lines; do
@@ -14,19 +12,19 @@ done
 # start so high that they wrap. No packet counts as too late, because a recording does not say which were not sent.
 start() {
     : > "$work/out"
-    "$bridge" live --control-port 15944 --base-port 16000 --slots "$callers" --first-termination 1000 \
+    "$gateway" live --control-port 15944 --base-port 16000 --slots "$callers" --first-termination 1000 \
         --first-context 100 --ssrc 4294967200 --sequence 65000 --timestamp 4294960000 --late 60000 "$@" \
         > "$work/out" 2> "$work/errors" &
-    gateway=$!
+    process=$!
     until grep -q 'ready$' "$work/out"; do
-        kill -0 "$gateway" 2> /dev/null || { cat "$work/errors"; exit 1; }
+        kill -0 "$process" 2> /dev/null || { cat "$work/errors"; exit 1; }
         sleep 0.1
     done
 }
 
 # Ends the gateway, and shows what it wrote to standard error.
 stop() {
-    kill "$gateway"
-    wait "$gateway" 2> /dev/null || true
+    kill "$process"
+    wait "$process" 2> /dev/null || true
     cat "$work/errors" >&2
 }

@@ -5,8 +5,10 @@
 # usage: cost.sh [--gateway PATH] [SECONDS] [CALLERS] [TURNS]
 # It needs what calls.sh needs, and gzip.
 set -eu
-seconds=${1:-60} callers=${2:-128} turns=${3:-3}
 here=$(CDPATH= cd -- "$(dirname -- "$0")" && pwd)
+others='[SECONDS] [CALLERS] [TURNS]'
+. "$here/../gateway_option.sh"
+seconds=${1:-60} callers=${2:-128} turns=${3:-3}
 . "$here/common.sh"
 hz=$(getconf CLK_TCK)
 
@@ -15,7 +17,7 @@ turn() {
     start "${@:2}"
     "$work/calls" "$callers" "$seconds" "$work/sent" "$work/came" > "$work/told"
     awk -v name="$1" -v hz="$hz" '{ printf "%s: %.2f s of the processor\n", name, ($14 + $15) / hz }' \
-        "/proc/$gateway/stat" | tee -a "$work/turns"
+        "/proc/$process/stat" | tee -a "$work/turns"
     sed 's/^/  /' "$work/told"
     stop
 }

@@ -7,13 +7,12 @@
 # program that rt proves and builds first, with the crates below it. The runs take less than a minute.
 set -eu
 here=$(CDPATH= cd -- "$(dirname -- "$0")" && pwd)
+. "$here/../gateway_option.sh"
 root=$here/../..
-bridge=$root/crates/mg_bridge/out/mg_bridge
 script=$root/examples/speech.txt
 output=$root/examples/speech.out
 work=$(mktemp -d)
 trap 'rm -rf "$work"' EXIT
-[ -x "$bridge" ] || (cd "$root/crates/mg_bridge" && rt run -- --help > /dev/null)
 gcc -O2 -Wall -Wextra -shared -fPIC -o "$work/refuse.so" "$here/refuse.c"
 
 # Prints what happened in this run, and ends the trial.
@@ -63,7 +62,7 @@ is_whole_lines() {
 is_of_bytes() {
     head -c "$1" "$script" > "$work/bytes"
     head -n "$(wc -l < "$work/bytes")" "$work/bytes" > "$work/lines"
-    "$bridge" replay < "$work/lines" > "$work/wanted"
+    "$gateway" replay < "$work/lines" > "$work/wanted"
     cmp -s "$work/out" "$work/wanted" || wrong 'what was written is not the output of the lines that were read'
 }
 
@@ -83,7 +82,7 @@ is_last() {
 # A script of control messages and speech. Reads and writes take at most 40 bytes, so that there are many.
 name=replay
 replay() {
-    refused "$1" "$2" 40 "$script" "$bridge" replay
+    refused "$1" "$2" 40 "$script" "$gateway" replay
 }
 spared=0
 k=1
@@ -120,7 +119,7 @@ is_last "$output"
 
 # Sessions of the gateway over loopback.
 for kind in memory read write receive send wait; do
-    PYTHONPATH=$here/.. python3 "$here/serve.py" "$bridge" "$work/refuse.so" "$kind"
+    PYTHONPATH=$here/.. python3 "$here/serve.py" "$gateway" "$work/refuse.so" "$kind"
 done
 
 # A session that gets no line after the write that fails. `serve` must not exit as if everything had been printed.
@@ -128,7 +127,7 @@ name=serve
 printf 'stats\ntick\nstats\nquit\n' > "$work/session"
 serve() {
     ports=$(PYTHONPATH=$here/.. python3 -c 'from loopback import free_ports; print(*free_ports(2))')
-    refused "$1" "$2" 0 "$work/session" "$bridge" serve --slots=2 --control-port="${ports% *}" --base-port="${ports#* }"
+    refused "$1" "$2" 0 "$work/session" "$gateway" serve --slots=2 --control-port="${ports% *}" --base-port="${ports#* }"
 }
 serve none 0
 cp "$work/out" "$work/whole"

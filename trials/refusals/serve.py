@@ -123,7 +123,7 @@ class Session:
         return {name: int(told[name]) for name in self.counts}
 
     def after(self, counts, **risen):
-        """Checks that the counts have risen by this much, and that only the one failure was counted."""
+        """Checks that the counts have risen by this much, and that at most the one failure was counted."""
         failed = counts["failed"]
         expect(failed == 0 or (failed == 1 and self.is_refused()), f"failed={failed}")
         for name in ("control", "media", "ticks", "sent"):
@@ -149,7 +149,7 @@ class Session:
                 return
             expect(turn == 0 and counts["failed"] == failed + 1, "no answer")
             expect(KIND in ("memory", "send"), "no answer")
-            # Without memory the datagram is no event. If its answer was lost it is an event, and its reply is kept.
+            # Without memory, the datagram isn't an event. If its answer was lost, it is one, and its reply is kept.
             self.after(counts, control=0 if KIND == "memory" else 1)
 
     def speak(self):

@@ -5,7 +5,6 @@
 # five seconds longer than the stall.
 set -eu
 here=$(CDPATH= cd -- "$(dirname -- "$0")" && pwd)
-root=$here/../..
-bridge=$root/crates/mg_bridge/out/mg_bridge
-[ -x "$bridge" ] || (cd "$root/crates/mg_bridge" && rt run -- --help > /dev/null)
-PYTHONPATH=$here/.. exec python3 "$here/stall.py" "$bridge" "${1:-16}" "${2:-5}"
+others='[CALLERS] [SECONDS]'
+. "$here/../gateway_option.sh"
+PYTHONPATH=$here/.. exec python3 "$here/stall.py" "$gateway" "${1:-16}" "${2:-5}"

@@ -192,14 +192,18 @@ from(#mod{init_data = #init_data{peername = {_, From}}}) -> list_to_binary(From)
 %% Returns the gateway, or the rooms and the member, that a change concerns.
 about(<<"/gateways/", _/binary>>, Name, _) ->
     [{gateway, Name}];
+about(<<"/links", _/binary>>, _, Object) ->
+    [{rooms, Rooms} || Rooms = [_ | _] <- [room_in(Object)]];
 about(_, Name, Object) ->
-    To = [Room || #{<<"room">> := Room} <- [Object], is_binary(Room)],
+    To = room_in(Object),
     case lobby_member:find(Name) of
         {ok, Row = #{room := Room}} ->
             Caller = lobby_json:named(Row, maps:get(Name, lobby_call:callers([Row]), <<>>)),
             [{rooms, [Room | To]}, {member, Name} | maps:to_list(Caller)];
         error -> [{rooms, [Name | To]}]
     end.
+
+room_in(Object) -> [Room || #{<<"room">> := Room} <- [Object], is_binary(Room)].
 
 query(Uri) ->
     case uri_string:dissect_query(iolist_to_binary(tl(string:split(Uri, "?")))) of

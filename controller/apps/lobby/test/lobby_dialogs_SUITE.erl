@@ -116,7 +116,7 @@ an_answer_at_once(Config) ->
     ok = sys:suspend(lobby_registry:whereis_name({room, <<"100">>})),
     Phone = phone:start(sip(Config)),
     _ = phone:invite(phone:sdp(Phone), Phone),
-    Answer = phone:received(Phone, 200),
+    Answer = phone:received(Phone, 2000),
     ?assertEqual(100, phone:status(Answer)),
     ?assertEqual(nomatch, re:run(phone:header("To", Answer), "tag=")),
     ok = sys:resume(lobby_registry:whereis_name({room, <<"100">>})),

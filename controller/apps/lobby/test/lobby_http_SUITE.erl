@@ -389,7 +389,7 @@ events(Config) ->
     Phone = call("100", Config),
     ?assertEqual(Room, said(Watching)),
     [Id] = members("100", Config),
-    ?assertEqual("", said(400, Watching)),
+    settles(Room, Watching),
     [begin
          ?assertMatch({_, {200, _}}, {Path, ask(post, Path, Body, Config)}),
          ?assertEqual({Path, Room}, {Path, said(Watching)})
@@ -406,6 +406,13 @@ events(Config) ->
     until(fun() -> pg:get_local_members(lobby, events) =:= [] end),
     NoToken = watch("", Config),
     ?assertMatch("HTTP/1.1 401 " ++ _, head(NoToken)).
+
+%% Waits until no event comes. On a busy machine, the beginning of a call takes long enough for several events.
+settles(Event, Watching) ->
+    case said(400, Watching) of
+        "" -> ok;
+        Event -> settles(Event, Watching)
+    end.
 
 watch(Token, Config) ->
     {Address, Port} = proplists:get_value(http, Config),

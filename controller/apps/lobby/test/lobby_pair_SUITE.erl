@@ -99,7 +99,7 @@ node_of(Name, Config) ->
     ok = peer:call(Peer, application, load, [lobby]),
     [ok = peer:call(Peer, application, set_env, [lobby, Key, Value])
      || {Key, Value} <- get(env, Config) ++ [{store, disc}, {pair, pair(Name, Config)} | addresses(Name, Config)]],
-    ok = peer:call(Peer, lobby_pair, distribute, [pair(Name, Config)]),
+    ok = peer:call(Peer, lobby_pair, distribute, [pair(Name, Config)], 30000),
     Peer.
 
 %% A node that hangs keeps its ports, so the other node gets its own ports.
@@ -442,7 +442,7 @@ a_standby_that_hangs(Config0) ->
     Config = [{a, A}, {b, B} | _] = with_pids_first(Config0),
     settle(),
     signal("STOP", B, Config),
-    ?assertMatch({{wait, _}, Passed} when Passed > 2500, until_durable(A)),
+    ?assertMatch({{wait, _}, Passed} when Passed >= 2500, until_durable(A)),
     signal("CONT", B, Config),
     ended(B).
 

@@ -15,7 +15,7 @@ codec_test_() ->
     {setup, fun() -> ok end,
      [fun a_request_is_read/0, fun what_is_missing_is_a_bad_request/0, fun what_is_no_message_is_refused/0,
       fun the_source_is_written_into_the_via/0, fun responses_go_where_rfc_3581_says/0, fun tags_stay_as_they_are/0,
-      fun addresses_of_ipv6_stay/0, fun what_follows_the_body_is_cut_off/0, fun a_response_has_what_it_needs/0,
+      fun addresses_of_ipv6_stay/0, fun only_ascii_letters_change_their_case/0, fun what_follows_the_body_is_cut_off/0, fun a_response_has_what_it_needs/0,
       fun a_provisional_answer_makes_no_dialog/0, fun reading_takes_linear_time/0,
       ?property(prop_any_datagram_is_read_or_refused, 3000)]}.
 
@@ -91,6 +91,10 @@ tags_stay_as_they_are() ->
     Response = lobby_sip_message:encode(lobby_sip_message:response(200, Message, <<"Ours">>, {[], <<>>})),
     [?assertNotEqual(nomatch, binary:match(Response, Part))
      || Part <- [<<"From: \"A\" <sip:alice@10.0.0.5>;tag=OqDAfgewV\r\n">>, <<"To: <sip:100@192.0.2.1>;tag=Ours\r\n">>, <<"Call-ID: AbC\r\n">>]].
+
+only_ascii_letters_change_their_case() ->
+    {ok, Message} = decode(?INVITE ++ ["Require: A\303\211"]),
+    ?assertEqual([[<<"a\303\211">>]], [Names || {require, Names} <- Message#sip.hdrs]).
 
 addresses_of_ipv6_stay() ->
     Lines = ["INVITE sip:100@[fd00::1]:5060 SIP/2.0", "Via: SIP/2.0/UDP [fd00::2]:5070;branch=z9hG4bK-1",

@@ -119,7 +119,12 @@ a_link_has_one_member(Config) ->
     ?assertMatch([#{<<"link">> := Number, <<"caller">> := <<"Ann">>, <<"rooms">> := [<<"100">>], <<"roles">> := [<<"coach">>], <<"codecs">> := [<<"PCMU">>],
                     <<"from">> := <<"127.0.0.1">>, <<"why">> := <<"the caller hung up">>}], Ended()),
     {ok, File} = file:read_file(audit_file(a_link_has_one_member, Config)),
-    ?assertEqual(nomatch, binary:match(File, binary:part(Token, 0, 40))).
+    ?assertEqual(nomatch, binary:match(File, binary:part(Token, 0, 40))),
+    %% A change of links is about the link's room, and a link's number isn't a room.
+    {200, _} = ask(delete, "/links/" ++ binary_to_list(Number), "", Config),
+    {ok, #{lines := Lines}} = lobby_audit:read(#{}),
+    ?assertEqual([{<<"POST /links">>, [<<"100">>]}, {<<"DELETE /links/{number}">>, none}],
+                 [{Change, maps:get(<<"rooms">>, Line, none)} || Line = #{<<"event">> := <<"change">>, <<"change">> := Change} <- Lines]).
 
 %% A member who joins again stays isolated, whether or not the member is still in the room.
 who_joins_again_stays_isolated(Config) ->

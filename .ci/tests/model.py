@@ -64,7 +64,7 @@ class Termination:
 
 
 class Gateway:
-    """Each call that changes something returns an error number, or None."""
+    """Each command returns an error number, or None."""
 
     def __init__(self, slots):
         self.slots, self.last_termination, self.last_context, self.ticks = slots, 0, 0, 0
@@ -86,7 +86,7 @@ class Gateway:
         return 435 if number is not None and self.terminations[number].context != context else None
 
     def enter(self, it, context):
-        """A context of None means a new one. Each member and the newcomer hear each other."""
+        """A context of None means a new one. At first, no pair with the newcomer is muted."""
         if context is None:
             context = self.last_context = self.last_context + 1
         it.context = context

@@ -37,7 +37,7 @@ class Audible(Commands):
         counted = SPEECH.replace(TITLE, TITLE + "# counted ticks\n").replace("tick\n" * 4, "ticks 4\n")
         self.assertEqual(counted.count("ticks 4\n"), 1)
         self.audible(HEARD, text=counted)
-        # In the last tick of a script.
+        # The speech lasts until the end of the script.
         self.audible(HEARD.replace("tick 6", "the end"), text=TITLE + PAIR + frames(30000, *[LOUD] * 6))
 
     def test_isolation(self):

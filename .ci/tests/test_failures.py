@@ -67,7 +67,7 @@ class Failures(Commands):
         self.assertIn("\ncontrol 127.0.0.1:", self.journal.read_text())
 
     def test_polls_fail(self):
-        """Then every socket is asked in each tick: the one for messages, and those for media."""
+        """The gateway then reads every socket in each tick: the one for messages, and those for media."""
         for words in (["serve"], ["live"]):
             failing = []
 

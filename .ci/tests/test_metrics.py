@@ -59,7 +59,7 @@ class Metrics(Commands):
         return self.fail("no metrics")
 
     def decide(self, call):
-        """The system refuses to receive twice, and to send three packets. A later packet takes 0.6 s."""
+        """Twice, the system refuses to receive, and three times to send a packet. A later packet takes 0.6 s."""
         if call.name == "recvfrom":
             return errno.EIO if call.count <= 2 else None
         if call.arguments[2] != PACKET:
@@ -100,7 +100,7 @@ class Metrics(Commands):
             self.assertNotEqual(first.inode, second.inode)
 
     def talk(self, caller, stranger):
-        """A conference of the caller and a member on hold, whom strangers disturb."""
+        """Strangers send messages and packets. The caller talks in a conference with a member on hold."""
         for _ in range(2):
             stranger.sendto(b"MEGACO/1 mg", CONTROL)
         caller.sendto(conference(add(caller.getsockname()[1]), add(40000, address="0.0.0.0")), CONTROL)

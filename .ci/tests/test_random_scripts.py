@@ -70,7 +70,7 @@ class Script:
         self.wanted.append(f"reply {number + 1} error {fault}")
 
     def speak(self, sequence):
-        """Most callers send a packet. Some are dropped, because of their source, type or length."""
+        """Most callers send a packet. Some packets are dropped, because of their source, type or length."""
         for it in self.gateway.terminations.values():
             law, source, length = self.random.choice([MU, A]) if it.local is None else it.local, it.number, 160
             kind = self.random.choice(["lost", "stray", "other type", "short", *["good"] * 26])

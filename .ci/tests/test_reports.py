@@ -195,7 +195,7 @@ class Reports(Commands):
         """A page about a script that can't be read to its end says so."""
         for text, message in (
             (PAIR + "tick\n" + PART + "tick\n# a comment\ntock\n", "line 7: bad script line"),
-            (date(20) + PAIR + "tick\n" + PART + "tick\n" + date(18), "line 7: the clock went back"),
+            (date(20) + PAIR + "tick\n" + PART + "tick\n" + TITLE.replace("=256", "=4"), "line 7: the title of another gateway"),
         ):
             page = self.page(text=TITLE + text, status=6, errors=f"standard input: {message}\n")
             alert = next(it for it in page.said["p"] if it.startswith("This report is incomplete."))

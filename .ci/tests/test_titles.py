@@ -40,7 +40,8 @@ class Titles(Commands):
         return b"".join(int(digits).to_bytes(size, "big") for digits, size in zip(found.groups(), (4, 2, 4)))
 
     def test_numbers_that_no_option_gives_are_drawn(self):
-        # A byte is the same in all runs with a probability of 1 in 16 million, and two bytes with 1 in 4,000 million.
+        # A byte is the same in all runs with a probability of 1 in 16 million. Two bytes equal each other in all runs
+        # with a probability of 1 in 4,000 million.
         runs = [self.drawn() for _ in range(4)]
         places = list(zip(*runs))
         self.assertTrue(all(len(set(it)) > 1 for it in places), runs)

@@ -7,7 +7,7 @@
 //!
 //! ```rust
 //! let mut monitor = Reports::new(alloc, 60, &mut errors)?;
-//! let counts = serve(alloc, &setup, None, &mut ports, &mut input, &mut output, &mut monitor)?;
+//! let counts = serve::<(_, _, _), _>(start, &mut ports, &mut input, &mut output, &mut monitor)?;
 //! ```
 //!
 //! [`Loss`] counts the RTP packets that were lost.

@@ -35,7 +35,6 @@ mod send_fault;
 mod sending;
 mod serve;
 mod status;
-mod timer;
 mod verify;
 
 pub use crate::ended::Ended;

@@ -22,12 +22,12 @@ use crate::log_key::LogKey;
 use crate::metrics_file::MetricsFile;
 use crate::ready::{Ready, make_ready};
 use crate::status::status_after;
-use crate::timer::Timer;
 use mg_arguments::{Service, title_of};
 use mg_core::RunFault;
 use mg_host::{Clocks, Environment, Journals, Outside, System};
 use mg_monitor::{Both, Metrics, Reports};
 use mg_options::{Status, VERSION};
+use mg_serve::{Start, Timer, serve_by_clock};
 use mg_start::{Gateway, Prepared, Requested, prepare};
 use std::alloc::AllocError;
 use std::io::{self, ErrorKind, Write};
@@ -67,17 +67,14 @@ fn live_on<L: LogKey, E: Environment>(
     let config = gateway.config;
     let service = gateway.service;
     let title = title_of(&config);
-    mg_serve::serve_by_clock(
-        gateway.alloc,
-        &service.setup(config, gateway.reached),
-        gateway.core,
-        service.title(title.as_slice()),
-        ports,
-        &mut timer.watch,
-        timer.late,
-        output,
-        monitor,
-    )
+    let setup = service.setup(config, gateway.reached);
+    let start = Start {
+        alloc: gateway.alloc,
+        setup: &setup,
+        core: gateway.core,
+        title: service.title(title.as_slice()),
+    };
+    serve_by_clock::<(_, _, _), _>(start, ports, timer, output, monitor)
 }
 
 /// Runs a gateway on UDP ports, driven by the host's clock, which is stopped at the end.

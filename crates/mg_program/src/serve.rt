@@ -25,6 +25,7 @@ use mg_core::{Counts, RunFault};
 use mg_host::{Environment, Journals, Outside, System};
 use mg_monitor::Reports;
 use mg_options::Status;
+use mg_serve::Start;
 use mg_start::{Gateway, Prepared, Requested, prepare};
 use std::alloc::AllocError;
 use std::io::Write;
@@ -52,16 +53,14 @@ fn serve_on<L: LogKey, E: Environment>(
     let config = gateway.config;
     let service = gateway.service;
     let title = title_of(&config);
-    mg_serve::serve(
-        gateway.alloc,
-        &service.setup(config, gateway.reached),
-        gateway.core,
-        service.title(title.as_slice()),
-        ports,
-        input,
-        output,
-        monitor,
-    )
+    let setup = service.setup(config, gateway.reached);
+    let start = Start {
+        alloc: gateway.alloc,
+        setup: &setup,
+        core: gateway.core,
+        title: service.title(title.as_slice()),
+    };
+    mg_serve::serve::<(_, _, _), _>(start, ports, input, output, monitor)
 }
 
 /// Runs a gateway on UDP ports, driven by input lines.

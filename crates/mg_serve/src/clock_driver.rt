@@ -6,27 +6,25 @@ ghost use Rattle.mg_serve.specs.aids.Driving.{EndsByFault, RanByClock, StepTaken
 ghost use Rattle.mg_serve.specs.aids.Outside.{LeadsByTrace, outside};
 
 use crate::command::Command;
-use crate::monitor::Monitor;
+use crate::peripherals::Peripherals;
 use crate::server::Server;
 use crate::setup::Setup;
 use mg_clock::{Step, TickSchedule, Watch};
 use mg_core::{DATAGRAM_LIMIT, RunFault};
 use mg_lines::WriteFailed;
-use mg_ports::Ports;
-use std::io::Write;
 
 /// Drives a server with a clock: a poll and a tick every 20 ms, and polls when messages arrive in between, up to 20
 /// before each tick.
 #[derive(Drop)]
-pub struct ClockDriver<'a, M: Monitor> {
-    pub server: Server<'a, M>,
+pub struct ClockDriver<'a, P: Peripherals> {
+    pub server: Server<'a, P::Monitor>,
     pub schedule: TickSchedule,
 }
 
-impl<'a, M: Monitor> ClockDriver<'a, M> {
+impl<'a, P: Peripherals> ClockDriver<'a, P> {
     /// Creates a driver for a server, before the first tick. If a tick is more than `allowed` ticks late, its packets
     /// are not sent.
-    pub fn new(server: Server<'a, M>, allowed: u16) -> Self
+    pub fn new(server: Server<'a, P::Monitor>, allowed: u16) -> Self
         ensures server { result.server ≡ server.entry }
         ensures schedule { result.schedule ≡ record { ticks = 0; allowed = allowed; messages = 0 } }
     {
@@ -37,13 +35,13 @@ impl<'a, M: Monitor> ClockDriver<'a, M> {
     }
 
     /// Executes a step of the clock: a poll, and then the tick if one begins.
-    fn take_step<P: Ports, W: Write>(
+    fn take_step(
         &mut self,
         setup: &Setup<'_>,
-        ports: &mut P,
+        ports: &mut P::Ports,
         buffer: &mut [u8],
         step: Step,
-        writer: &mut W,
+        writer: &mut P::Output,
     ) -> Result<(), WriteFailed>
         requires sound { IsValidConfig setup.now.config }
         requires room { length buffer.old ≤ DATAGRAM_LIMIT }
@@ -53,9 +51,9 @@ impl<'a, M: Monitor> ClockDriver<'a, M> {
         ensures whole { OnOk result (self.new.server.printer.has_failed ≡ false) }
         ensures failed { OnErr result (self.new.server.printer.has_failed ≡ true) }
         ensures value { LeadsByTrace self.old.server.core.state self.new.server.core.state
-            (outside (ports_seen (P.calls ports.old) (P.journal ports.old)) (W.contents writer.old)
+            (outside (ports_seen (P.Ports.calls ports.old) (P.Ports.journal ports.old)) (P.Output.contents writer.old)
             self.old.server.printer self.old.server.journal)
-            (outside (ports_seen (P.calls ports.new) (P.journal ports.new)) (W.contents writer.new)
+            (outside (ports_seen (P.Ports.calls ports.new) (P.Ports.journal ports.new)) (P.Output.contents writer.new)
             self.new.server.printer self.new.server.journal)
             (StepTaken self.old.server.printer.form setup.now step result) }
         ensures few { self.new.server.journal.lacking ≤ self.old.server.journal.lacking + 1 }
@@ -72,13 +70,13 @@ impl<'a, M: Monitor> ClockDriver<'a, M> {
     }
 
     /// Executes polls and ticks when the clock says that they are due, until the clock or printing fails.
-    pub fn take_all<P: Ports, K: Watch, W: Write>(
+    pub fn take_all<K: Watch>(
         &mut self,
         setup: &Setup<'_>,
-        ports: &mut P,
+        ports: &mut P::Ports,
         buffer: &mut [u8],
         watch: &mut K,
-        writer: &mut W,
+        writer: &mut P::Output,
     ) -> RunFault
         requires sound { IsValidConfig setup.now.config }
         requires room { length buffer.old ≤ DATAGRAM_LIMIT }
@@ -88,9 +86,9 @@ impl<'a, M: Monitor> ClockDriver<'a, M> {
         ensures started { result ≢ RunFault.BadConfig }
         ensures value { (allowed : ℕ) → self.old.schedule ≡ record { ticks = 0; allowed = allowed; messages = 0 } →
             LeadsByTrace self.old.server.core.state self.new.server.core.state
-            (outside (ports_seen (P.calls ports.old) (P.journal ports.old)) (W.contents writer.old)
+            (outside (ports_seen (P.Ports.calls ports.old) (P.Ports.journal ports.old)) (P.Output.contents writer.old)
             self.old.server.printer self.old.server.journal)
-            (outside (ports_seen (P.calls ports.new) (P.journal ports.new)) (W.contents writer.new)
+            (outside (ports_seen (P.Ports.calls ports.new) (P.Ports.journal ports.new)) (P.Output.contents writer.new)
             self.new.server.printer self.new.server.journal)
             (RanByClock self.old.server.printer.form setup.now allowed
             (clock_seen (K.readings watch.old) (K.waits watch.old))

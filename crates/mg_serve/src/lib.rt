@@ -5,7 +5,8 @@
 //! acts as the gateway's clock.
 //!
 //! ```rust
-//! let counts = serve(alloc, &setup, core, None, &mut ports, &mut input, &mut output, &mut monitor)?;
+//! let start = Start { alloc, setup: &setup, core, title: None };
+//! let counts = serve::<(_, _, _), _>(start, &mut ports, &mut input, &mut output, &mut monitor)?;
 //! ```
 //!
 //! [`serve`] is proved for any [`Ports`](mg_ports::Ports). On return, the complete lines that it read and their effects
@@ -26,12 +27,16 @@ mod line;
 mod line_driver;
 mod monitor;
 mod output;
+mod peripherals;
 mod printer;
 mod server;
 mod serving;
 mod setup;
+mod start;
+mod terms;
 pub mod theorems;
 mod tick_report;
+mod timer;
 
 // A theorem can name a command in a contract only if the type is exported.
 #[doc(hidden)]
@@ -41,9 +46,12 @@ pub use crate::command::Command;
 pub use crate::form::Form;
 pub use crate::journal_report::JournalReport;
 pub use crate::monitor::Monitor;
+pub use crate::peripherals::Peripherals;
 pub use crate::serving::{serve, serve_by_clock};
 pub use crate::setup::Setup;
+pub use crate::start::Start;
 pub use crate::tick_report::TickReport;
+pub use crate::timer::Timer;
 pub use mg_clock::Timing;
 pub use mg_core::{Config, Core, Counts, RunFault};
 pub use mg_journal::Durability;

@@ -10,30 +10,29 @@ ghost use Rattle.mg_serve.specs.aids.Outside.{LeadsByTrace, new_journal, outside
 use crate::command::Command;
 use crate::form::Form;
 use crate::line::Line;
-use crate::monitor::Monitor;
+use crate::peripherals::Peripherals;
 use crate::server::Server;
 use crate::setup::Setup;
 use mg_core::{Core, DATAGRAM_LIMIT, RunFault};
 use mg_lines::{READ_SIZE, WriteFailed, read_some, without_return};
-use mg_ports::Ports;
 use std::alloc::{AllocError, Global};
-use std::io::{Read, Write};
+use std::io::Read;
 
 /// Drives a server with lines, which may arrive in pieces of any size.
 #[derive(Drop)]
-pub struct LineDriver<'a, M: Monitor> {
-    pub server: Server<'a, M>,
+pub struct LineDriver<'a, P: Peripherals> {
+    pub server: Server<'a, P::Monitor>,
     pub partial: Line,
 }
 
-impl<'a, M: Monitor> LineDriver<'a, M> {
+impl<'a, P: Peripherals> LineDriver<'a, P> {
     /// Creates a driver for a gateway, before the first line.
     pub fn new(
         alloc: Global,
         core: Core,
         form: Form,
         setup: &Setup<'_>,
-        monitor: &'a mut M,
+        monitor: &'a mut P::Monitor,
     ) -> Result<Self, AllocError>
         ensures core { IfOk result (λ driver. driver.server.core ≡ core) }
         ensures printer { IfOk result (λ driver.
@@ -48,12 +47,12 @@ impl<'a, M: Monitor> LineDriver<'a, M> {
     }
 
     /// Executes the partial line, which is now complete. Returns whether the line is `quit`.
-    fn end_line<P: Ports, W: Write>(
+    fn end_line(
         &mut self,
         setup: &Setup<'_>,
-        ports: &mut P,
+        ports: &mut P::Ports,
         buffer: &mut [u8],
-        writer: &mut W,
+        writer: &mut P::Output,
     ) -> Result<bool, WriteFailed>
         requires sound { IsValidConfig setup.now.config }
         requires room { length buffer.old ≤ DATAGRAM_LIMIT }
@@ -64,9 +63,9 @@ impl<'a, M: Monitor> LineDriver<'a, M> {
         ensures whole { OnOk result (self.new.server.printer.has_failed ≡ false) }
         ensures failed { IfErr result (λ failed. self.new.server.printer.has_failed ≡ true) }
         ensures value { LeadsByTrace self.old.server.core.state self.new.server.core.state
-            (outside (ports_seen (P.calls ports.old) (P.journal ports.old)) (W.contents writer.old)
+            (outside (ports_seen (P.Ports.calls ports.old) (P.Ports.journal ports.old)) (P.Output.contents writer.old)
             self.old.server.printer self.old.server.journal)
-            (outside (ports_seen (P.calls ports.new) (P.journal ports.new)) (W.contents writer.new)
+            (outside (ports_seen (P.Ports.calls ports.new) (P.Ports.journal ports.new)) (P.Output.contents writer.new)
             self.new.server.printer self.new.server.journal)
             (Performs setup.now (line_command (without_return self.old.partial))) }
         ensures few { self.new.server.journal.lacking ≤ self.old.server.journal.lacking + 1 }
@@ -80,13 +79,13 @@ impl<'a, M: Monitor> LineDriver<'a, M> {
     }
 
     /// Handles the next bytes of the input. Returns whether they complete a `quit` line.
-    fn take_bytes<P: Ports, W: Write>(
+    fn take_bytes(
         &mut self,
         setup: &Setup<'_>,
-        ports: &mut P,
+        ports: &mut P::Ports,
         buffer: &mut [u8],
         bytes: &[u8],
-        writer: &mut W,
+        writer: &mut P::Output,
     ) -> Result<bool, WriteFailed>
         requires sound { IsValidConfig setup.now.config }
         requires room { length buffer.old ≤ DATAGRAM_LIMIT }
@@ -96,9 +95,9 @@ impl<'a, M: Monitor> LineDriver<'a, M> {
         ensures failed { IfErr result (λ failed. self.new.server.printer.has_failed ≡ true) }
         ensures value { (partial : List ℕ) → self.old.partial ≡ take 8 partial
             → LeadsByTrace self.old.server.core.state self.new.server.core.state
-            (outside (ports_seen (P.calls ports.old) (P.journal ports.old)) (W.contents writer.old)
+            (outside (ports_seen (P.Ports.calls ports.old) (P.Ports.journal ports.old)) (P.Output.contents writer.old)
             self.old.server.printer self.old.server.journal)
-            (outside (ports_seen (P.calls ports.new) (P.journal ports.new)) (W.contents writer.new)
+            (outside (ports_seen (P.Ports.calls ports.new) (P.Ports.journal ports.new)) (P.Output.contents writer.new)
             self.new.server.printer self.new.server.journal)
             (BytesTaken self.old.server.printer.form setup.now partial bytes.now self.new.partial result) }
         ensures few { self.new.server.journal.lacking ≤ self.old.server.journal.lacking + length bytes.now }
@@ -116,21 +115,21 @@ impl<'a, M: Monitor> LineDriver<'a, M> {
     }
 
     /// Executes the last line if it has no line feed.
-    fn finish<P: Ports, W: Write>(
+    fn finish(
         &mut self,
         setup: &Setup<'_>,
-        ports: &mut P,
+        ports: &mut P::Ports,
         buffer: &mut [u8],
-        writer: &mut W,
+        writer: &mut P::Output,
     ) -> Result<(), WriteFailed>
         requires sound { IsValidConfig setup.now.config }
         requires room { length buffer.old ≤ DATAGRAM_LIMIT }
         requires whole { self.old.server.printer.has_failed ≡ false }
         requires few { self.old.server.journal.lacking + 1 < 2 ^ 64 }
         ensures value { LeadsByTrace self.old.server.core.state self.new.server.core.state
-            (outside (ports_seen (P.calls ports.old) (P.journal ports.old)) (W.contents writer.old)
+            (outside (ports_seen (P.Ports.calls ports.old) (P.Ports.journal ports.old)) (P.Output.contents writer.old)
             self.old.server.printer self.old.server.journal)
-            (outside (ports_seen (P.calls ports.new) (P.journal ports.new)) (W.contents writer.new)
+            (outside (ports_seen (P.Ports.calls ports.new) (P.Ports.journal ports.new)) (P.Output.contents writer.new)
             self.new.server.printer self.new.server.journal)
             (Finished setup.now self.old.partial) }
         ensures whole { OnOk result (self.new.server.printer.has_failed ≡ false) }
@@ -147,13 +146,13 @@ impl<'a, M: Monitor> LineDriver<'a, M> {
     }
 
     /// Executes the lines of the input, up to the first `quit` or the end of the input.
-    pub fn take_all<P: Ports, R: Read, W: Write>(
+    pub fn take_all<R: Read>(
         &mut self,
         setup: &Setup<'_>,
-        ports: &mut P,
+        ports: &mut P::Ports,
         buffer: &mut [u8],
         reader: &mut R,
-        writer: &mut W,
+        writer: &mut P::Output,
     ) -> Result<(), RunFault>
         requires sound { IsValidConfig setup.now.config }
         requires room { length buffer.old ≤ DATAGRAM_LIMIT }
@@ -163,9 +162,9 @@ impl<'a, M: Monitor> LineDriver<'a, M> {
         ensures ends { EndsBy result self.new.server.printer.has_failed }
         ensures started { result ≢ Err RunFault.BadConfig }
         ensures value { LeadsByTrace self.old.server.core.state self.new.server.core.state
-            (outside (ports_seen (P.calls ports.old) (P.journal ports.old)) (W.contents writer.old)
+            (outside (ports_seen (P.Ports.calls ports.old) (P.Ports.journal ports.old)) (P.Output.contents writer.old)
             self.old.server.printer self.old.server.journal)
-            (outside (ports_seen (P.calls ports.new) (P.journal ports.new)) (W.contents writer.new)
+            (outside (ports_seen (P.Ports.calls ports.new) (P.Ports.journal ports.new)) (P.Output.contents writer.new)
             self.new.server.printer self.new.server.journal)
             (RanLines self.old.server.printer.form setup.now (R.remaining reader.old) (R.remaining reader.new) result) }
     {

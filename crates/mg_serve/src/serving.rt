@@ -11,14 +11,15 @@ ghost use Rattle.mg_serve.specs.aids.Outside.{new_journal};
 use crate::clock_driver::ClockDriver;
 use crate::form::Form;
 use crate::line_driver::LineDriver;
-use crate::monitor::Monitor;
+use crate::peripherals::Peripherals;
 use crate::server::Server;
-use crate::setup::Setup;
+use crate::start::Start;
+use crate::terms::Terms;
+use crate::timer::Timer;
 use mg_clock::Watch;
-use mg_core::{Core, Counts, DATAGRAM_LIMIT, RunFault};
-use mg_ports::Ports;
+use mg_core::{Counts, DATAGRAM_LIMIT, RunFault};
 use std::alloc::{AllocError, Global};
-use std::io::{Read, Write};
+use std::io::Read;
 
 /// Runs a gateway on the given ports, driven by lines of text. The gateway is new, or was resumed from a journal.
 ///
@@ -50,61 +51,69 @@ use std::io::{Read, Write};
 /// On return, with or without an error, the complete lines that were read and their effects form a session of the
 /// gateway. `Read` and `Write` mean that the input or the output failed. `Read` is also returned after 4,294,967,295
 /// reads that did not reach the end of the input. `NoMemory` is returned only before anything is read.
-pub fn serve<P: Ports, R: Read, W: Write, M: Monitor>(
-    alloc: Global,
-    setup: &Setup<'_>,
-    core: Core,
-    title: Option<&[u8]>,
-    ports: &mut P,
+pub fn serve<P: Peripherals, R: Read>(
+    start: Start<'_>,
+    ports: &mut P::Ports,
     reader: &mut R,
-    writer: &mut W,
-    monitor: &mut M,
+    writer: &mut P::Output,
+    monitor: &mut P::Monitor,
 ) -> Result<Counts, RunFault>
-    requires sound { IsValidConfig setup.now.config }
-    ensures session { (w : World) → StandsFor core.state w →
-        Served setup.now w (option_map (λ text. text.now) title.entry)
-        (ReadCommands (form_of (option_map (λ text. text.now) title.entry)) (R.remaining reader.old)
+    requires sound { IsValidConfig start.setup.now.config }
+    ensures session { (w : World) → StandsFor start.entry.core.state w →
+        Served start.entry.setup.now w (option_map (λ text. text.now) start.entry.title)
+        (ReadCommands (form_of (option_map (λ text. text.now) start.entry.title)) (R.remaining reader.old)
         (R.remaining reader.new) result)
-        (ports_seen (P.calls ports.old) (P.journal ports.old)) (ports_seen (P.calls ports.new) (P.journal ports.new))
-        (W.contents writer.old) (W.contents writer.new) result }
+        (ports_seen (P.Ports.calls ports.old) (P.Ports.journal ports.old))
+        (ports_seen (P.Ports.calls ports.new) (P.Ports.journal ports.new))
+        (P.Output.contents writer.old) (P.Output.contents writer.new) result }
     ensures started { result ≢ Err RunFault.BadConfig }
 {
-    let Ok(mut driver) = LineDriver::new(alloc, core, form_of(title), setup, monitor) else {
+    let Start {
+        alloc,
+        setup,
+        core,
+        title,
+    } = start;
+    let Ok(mut driver) = LineDriver::<P>::new(alloc, core, form_of(title), setup, monitor) else {
         return Err(RunFault::NoMemory);
     };
-    drive(&mut driver, alloc, setup, title, ports, reader, writer)
+    let terms = Terms {
+        alloc,
+        setup,
+        title,
+    };
+    drive(&mut driver, &terms, ports, reader, writer)
 }
 
 /// Drives a gateway with the lines of the input, up to the first `quit` or the end.
-fn drive<P: Ports, R: Read, W: Write, M: Monitor>(
-    driver: &mut LineDriver<'_, M>,
-    alloc: Global,
-    setup: &Setup<'_>,
-    title: Option<&[u8]>,
-    ports: &mut P,
+fn drive<P: Peripherals, R: Read>(
+    driver: &mut LineDriver<'_, P>,
+    terms: &Terms<'_>,
+    ports: &mut P::Ports,
     reader: &mut R,
-    writer: &mut W,
+    writer: &mut P::Output,
 ) -> Result<Counts, RunFault>
-    requires sound { IsValidConfig setup.now.config }
+    requires sound { IsValidConfig terms.now.setup.now.config }
     requires printer { driver.old.server.printer ≡
-        record { form = form_of (option_map (λ text. text.now) title); has_failed = false } }
-    requires journal { driver.old.server.journal ≡ new_journal setup.now }
+        record { form = form_of (option_map (λ text. text.now) terms.now.title); has_failed = false } }
+    requires journal { driver.old.server.journal ≡ new_journal terms.now.setup.now }
     requires partial { driver.old.partial ≡ [] }
     ensures session { (w : World) → StandsFor driver.old.server.core.state w →
-        Served setup.now w (option_map (λ text. text.now) title.entry)
-        (ReadCommands (form_of (option_map (λ text. text.now) title.entry)) (R.remaining reader.old)
+        Served terms.now.setup.now w (option_map (λ text. text.now) terms.now.title)
+        (ReadCommands (form_of (option_map (λ text. text.now) terms.now.title)) (R.remaining reader.old)
         (R.remaining reader.new) result)
-        (ports_seen (P.calls ports.old) (P.journal ports.old)) (ports_seen (P.calls ports.new) (P.journal ports.new))
-        (W.contents writer.old) (W.contents writer.new) result }
+        (ports_seen (P.Ports.calls ports.old) (P.Ports.journal ports.old))
+        (ports_seen (P.Ports.calls ports.new) (P.Ports.journal ports.new))
+        (P.Output.contents writer.old) (P.Output.contents writer.new) result }
     ensures started { result ≢ Err RunFault.BadConfig }
 {
-    let Ok(mut buffer) = datagram_buffer(alloc) else {
+    let Ok(mut buffer) = datagram_buffer(terms.alloc) else {
         return Err(RunFault::NoMemory);
     };
-    let Ok(()) = driver.server.open(title, writer) else {
+    let Ok(()) = driver.server.open(terms.title, writer) else {
         return Err(RunFault::Write);
     };
-    driver.take_all(setup, ports, buffer.as_mut_slice(), reader, writer)?;
+    driver.take_all(terms.setup, ports, buffer.as_mut_slice(), reader, writer)?;
     Ok(driver.server.counts(ports))
 }
 
@@ -114,70 +123,78 @@ fn drive<P: Ports, R: Read, W: Write, M: Monitor>(
 /// message arrives in between, does the same as [`serve`] for the line `poll`, up to 20 times before each tick.
 ///
 /// The k-th tick begins at the first reading of the clock at which it is due: `k * 20 ms` after the clock's start, or
-/// later. After a delay, all missed ticks are executed at once. If a tick is more than `allowed` ticks late, its
-/// packets are not sent.
+/// later. After a delay, all missed ticks are executed at once. If a tick is later than the timer allows, its packets are
+/// not sent.
 ///
 /// Returns only on a fault: `Read` if the clock can't be read, `Write` if printing failed, or `NoMemory` before
 /// anything is executed.
-pub fn serve_by_clock<P: Ports, K: Watch, W: Write, M: Monitor>(
-    alloc: Global,
-    setup: &Setup<'_>,
-    core: Core,
-    title: Option<&[u8]>,
-    ports: &mut P,
-    watch: &mut K,
-    allowed: u16,
-    writer: &mut W,
-    monitor: &mut M,
+pub fn serve_by_clock<P: Peripherals, K: Watch>(
+    start: Start<'_>,
+    ports: &mut P::Ports,
+    timer: &mut Timer<K>,
+    writer: &mut P::Output,
+    monitor: &mut P::Monitor,
 ) -> RunFault
-    requires sound { IsValidConfig setup.now.config }
-    ensures session { (w : World) → StandsFor core.state w →
-        Served setup.now w (option_map (λ text. text.now) title.entry)
-        (ClockCommands (form_of (option_map (λ text. text.now) title.entry)) allowed
-        (clock_seen (K.readings watch.old) (K.waits watch.old)) (clock_seen (K.readings watch.new) (K.waits watch.new))
-        (K.Fails watch.new) (Err result))
-        (ports_seen (P.calls ports.old) (P.journal ports.old)) (ports_seen (P.calls ports.new) (P.journal ports.new))
-        (W.contents writer.old) (W.contents writer.new) (Err result) }
+    requires sound { IsValidConfig start.setup.now.config }
+    ensures session { (w : World) → StandsFor start.entry.core.state w →
+        Served start.entry.setup.now w (option_map (λ text. text.now) start.entry.title)
+        (ClockCommands (form_of (option_map (λ text. text.now) start.entry.title)) timer.old.late
+        (clock_seen (K.readings timer.old.watch) (K.waits timer.old.watch))
+        (clock_seen (K.readings timer.new.watch) (K.waits timer.new.watch))
+        (K.Fails timer.new.watch) (Err result))
+        (ports_seen (P.Ports.calls ports.old) (P.Ports.journal ports.old))
+        (ports_seen (P.Ports.calls ports.new) (P.Ports.journal ports.new))
+        (P.Output.contents writer.old) (P.Output.contents writer.new) (Err result) }
     ensures started { result ≢ RunFault.BadConfig }
 {
+    let Start {
+        alloc,
+        setup,
+        core,
+        title,
+    } = start;
     let Ok(server) = Server::new(alloc, core, form_of(title), setup, monitor) else {
         return RunFault::NoMemory;
     };
-    let mut driver = ClockDriver::new(server, allowed);
-    drive_by_clock(&mut driver, alloc, setup, title, ports, watch, writer)
+    let mut driver = ClockDriver::<P>::new(server, timer.late);
+    let terms = Terms {
+        alloc,
+        setup,
+        title,
+    };
+    drive_by_clock(&mut driver, &terms, ports, &mut timer.watch, writer)
 }
 
 /// Drives a gateway with a clock.
-fn drive_by_clock<P: Ports, K: Watch, W: Write, M: Monitor>(
-    driver: &mut ClockDriver<'_, M>,
-    alloc: Global,
-    setup: &Setup<'_>,
-    title: Option<&[u8]>,
-    ports: &mut P,
+fn drive_by_clock<P: Peripherals, K: Watch>(
+    driver: &mut ClockDriver<'_, P>,
+    terms: &Terms<'_>,
+    ports: &mut P::Ports,
     watch: &mut K,
-    writer: &mut W,
+    writer: &mut P::Output,
 ) -> RunFault
-    requires sound { IsValidConfig setup.now.config }
+    requires sound { IsValidConfig terms.now.setup.now.config }
     requires printer { driver.old.server.printer ≡
-        record { form = form_of (option_map (λ text. text.now) title); has_failed = false } }
-    requires journal { driver.old.server.journal ≡ new_journal setup.now }
+        record { form = form_of (option_map (λ text. text.now) terms.now.title); has_failed = false } }
+    requires journal { driver.old.server.journal ≡ new_journal terms.now.setup.now }
     ensures session { (allowed : ℕ) → driver.old.schedule ≡ record { ticks = 0; allowed = allowed; messages = 0 } →
         (w : World) → StandsFor driver.old.server.core.state w →
-        Served setup.now w (option_map (λ text. text.now) title.entry)
-        (ClockCommands (form_of (option_map (λ text. text.now) title.entry)) allowed
+        Served terms.now.setup.now w (option_map (λ text. text.now) terms.now.title)
+        (ClockCommands (form_of (option_map (λ text. text.now) terms.now.title)) allowed
         (clock_seen (K.readings watch.old) (K.waits watch.old)) (clock_seen (K.readings watch.new) (K.waits watch.new))
         (K.Fails watch.new) (Err result))
-        (ports_seen (P.calls ports.old) (P.journal ports.old)) (ports_seen (P.calls ports.new) (P.journal ports.new))
-        (W.contents writer.old) (W.contents writer.new) (Err result) }
+        (ports_seen (P.Ports.calls ports.old) (P.Ports.journal ports.old))
+        (ports_seen (P.Ports.calls ports.new) (P.Ports.journal ports.new))
+        (P.Output.contents writer.old) (P.Output.contents writer.new) (Err result) }
     ensures started { result ≢ RunFault.BadConfig }
 {
-    let Ok(mut buffer) = datagram_buffer(alloc) else {
+    let Ok(mut buffer) = datagram_buffer(terms.alloc) else {
         return RunFault::NoMemory;
     };
-    let Ok(()) = driver.server.open(title, writer) else {
+    let Ok(()) = driver.server.open(terms.title, writer) else {
         return RunFault::Write;
     };
-    driver.take_all(setup, ports, buffer.as_mut_slice(), watch, writer)
+    driver.take_all(terms.setup, ports, buffer.as_mut_slice(), watch, writer)
 }
 
 /// Returns the form of the output: a recording if there is a title, and plain lines otherwise.

@@ -11,8 +11,8 @@ use mg_journal::{AppendFault, FaultEffect, FileCall, InjectedFault, MemoryFile, 
 use mg_monitor::{Both, Metrics, Reports};
 use mg_ports::{Arrival, Call, FakePorts, Payload, Peer, Receipt};
 use mg_serve::{
-    Config, Core, Counts, Durability, JournalReport, Monitor, RunFault, Setup, Timing, serve,
-    serve_by_clock,
+    Config, Core, Counts, Durability, JournalReport, Monitor, RunFault, Setup, Start, Timer,
+    Timing, serve, serve_by_clock,
 };
 use std::alloc::{AllocError, Global};
 use std::io::{self, Cursor, ErrorKind};
@@ -254,11 +254,18 @@ fn serve_on<M: Monitor>(
         session.journal,
         session.fence,
     );
+    let start = Start {
+        alloc,
+        setup: &setup,
+        core,
+        title: session.title,
+    };
     if session.by_clock {
-        let mut clock = LateClock::new();
-        let fault = serve_by_clock(
-            alloc, &setup, core, None, ports, &mut clock, 1, output, monitor,
-        );
+        let mut timer = Timer {
+            watch: LateClock::new(),
+            late: 1,
+        };
+        let fault = serve_by_clock::<(_, _, _), _>(start, ports, &mut timer, output, monitor);
         return Ok(Err(fault));
     }
     let lines = repeated(alloc, session.lines)?;
@@ -267,16 +274,7 @@ fn serve_on<M: Monitor>(
         piece: usize::MAX,
         calls: session.reads,
     };
-    Ok(serve(
-        alloc,
-        &setup,
-        core,
-        session.title,
-        ports,
-        &mut input,
-        output,
-        monitor,
-    ))
+    Ok(serve::<(_, _, _), _>(start, ports, &mut input, output, monitor))
 }
 
 /// Runs a new gateway on these ports, with all monitors.

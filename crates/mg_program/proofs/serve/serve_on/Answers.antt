@@ -9,4 +9,4 @@ returns-clause-session g c =
     let records = c.args.gateway.service.now.records in
     let title : option_map (λ text. text.now) c.title.result ≡ title_if records c.args.gateway.config =
     c.title.ensures.value ∙ ap (λ (l : List ℕ). if records then Some l else None) (c.as_slice.ensures.value ∙ c.title_of-title.ensures.value) in
-    rw (title, c.setup.ensures.value) at c.serve.ensures.session
+    rw (title, c.setup-setup.ensures.value) at c.serve.ensures.session

@@ -5,7 +5,7 @@ use Rattle.mg_serve.proofs.serving.serve.Goals as goal
 
 pub returns-in_default-clause-session : goal.returns-in_default-clause-session
 returns-in_default-clause-session g c w stands =
-    no_memory c.args.setup.now w (option_map (λ title. title.now) c.args.title)
+    no_memory c.args.start.setup.now w (option_map (λ title. title.now) c.args.start.title)
     (g.R.Read.remaining c.args.reader.now)
-    (ports_seen (g.P.Ports.calls c.args.ports.now) (g.P.Ports.journal c.args.ports.now))
-    (g.W.Write.contents c.args.writer.now)
+    (ports_seen (g.P.Ports.Ports.calls c.args.ports.now) (g.P.Ports.Ports.journal c.args.ports.now))
+    (g.P.Output.Write.contents c.args.writer.now)

@@ -6,8 +6,8 @@ use Rattle.mg_serve.proofs.serving.serve_by_clock.Goals as goal
 
 pub returns-in_default-clause-session : goal.returns-in_default-clause-session
 returns-in_default-clause-session g c w stands =
-    no_memory_by_clock c.args.setup.now w (option_map (λ title. title.now) c.args.title) c.args.allowed
-    (clock_seen (g.K.Watch.readings c.args.watch.now) (g.K.Watch.waits c.args.watch.now))
-    (g.K.Watch.Fails c.args.watch.now)
-    (ports_seen (g.P.Ports.calls c.args.ports.now) (g.P.Ports.journal c.args.ports.now))
-    (g.W.Write.contents c.args.writer.now)
+    no_memory_by_clock c.args.start.setup.now w (option_map (λ title. title.now) c.args.start.title) c.args.timer.now.late
+    (clock_seen (g.K.Watch.readings c.args.timer.now.watch) (g.K.Watch.waits c.args.timer.now.watch))
+    (g.K.Watch.Fails c.args.timer.now.watch)
+    (ports_seen (g.P.Ports.Ports.calls c.args.ports.now) (g.P.Ports.Ports.journal c.args.ports.now))
+    (g.P.Output.Write.contents c.args.writer.now)

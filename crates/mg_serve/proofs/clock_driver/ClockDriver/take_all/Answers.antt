@@ -13,8 +13,8 @@ loop-init g c = record {
   done = λ allowed is. rw is (no_steps c.args.setup.now (record { ticks = 0; allowed = allowed; messages = 0 })
       (clock_seen (g.K.Watch.readings c.args.watch.now) (g.K.Watch.waits c.args.watch.now))
       c.args.self.now.server.core.state
-      (outside (ports_seen (g.P.Ports.calls c.args.ports.now) (g.P.Ports.journal c.args.ports.now))
-      (g.W.Write.contents c.args.writer.now) c.args.self.now.server.printer c.args.self.now.server.journal));
+      (outside (ports_seen (g.P.Ports.Ports.calls c.args.ports.now) (g.P.Ports.Ports.journal c.args.ports.now))
+      (g.P.Output.Write.contents c.args.writer.now) c.args.self.now.server.printer c.args.self.now.server.journal));
 }
 
 pub returns-in_default-clause-ends : goal.returns-in_default-clause-ends
@@ -28,10 +28,10 @@ returns-in_default-clause-value g c allowed is =
     clock_fails c.args.self.now.server.printer.form c.args.setup.now allowed c.loop.counter c.loop.self.schedule
     before now after (g.K.Watch.Fails c.next_step.new.watch)
     c.args.self.now.server.core.state c.loop.self.server.core.state
-    (outside (ports_seen (g.P.Ports.calls c.args.ports.now) (g.P.Ports.journal c.args.ports.now))
-    (g.W.Write.contents c.args.writer.now) c.args.self.now.server.printer c.args.self.now.server.journal)
-    (outside (ports_seen (g.P.Ports.calls c.loop.ports) (g.P.Ports.journal c.loop.ports))
-    (g.W.Write.contents c.loop.writer) c.loop.self.server.printer c.loop.self.server.journal)
+    (outside (ports_seen (g.P.Ports.Ports.calls c.args.ports.now) (g.P.Ports.Ports.journal c.args.ports.now))
+    (g.P.Output.Write.contents c.args.writer.now) c.args.self.now.server.printer c.args.self.now.server.journal)
+    (outside (ports_seen (g.P.Ports.Ports.calls c.loop.ports) (g.P.Ports.Ports.journal c.loop.ports))
+    (g.P.Output.Write.contents c.loop.writer) c.loop.self.server.printer c.loop.self.server.journal)
     (c.loop.invariant.done allowed is) (failed_or c.in_default.ensures.fails)
   where
     failed_or : {A B : Type 0} {n : ℕ} → (A ⊎ B) → (A ⊎ (n ≡ 2 ^ 64 - 1 ⊎ B))
@@ -53,12 +53,12 @@ returns-in_default-take_step-clause-value g c allowed is =
     c.in_default-take_step.field-0
     before now after (g.K.Watch.Fails c.next_step.new.watch)
     c.args.self.now.server.core.state c.loop.self.server.core.state c.take_step.new.self.server.core.state
-    (outside (ports_seen (g.P.Ports.calls c.args.ports.now) (g.P.Ports.journal c.args.ports.now))
-    (g.W.Write.contents c.args.writer.now) c.args.self.now.server.printer c.args.self.now.server.journal)
-    (outside (ports_seen (g.P.Ports.calls c.loop.ports) (g.P.Ports.journal c.loop.ports))
-    (g.W.Write.contents c.loop.writer) c.loop.self.server.printer c.loop.self.server.journal)
-    (outside (ports_seen (g.P.Ports.calls c.take_step.new.ports) (g.P.Ports.journal c.take_step.new.ports))
-    (g.W.Write.contents c.take_step.new.writer) c.take_step.new.self.server.printer c.take_step.new.self.server.journal)
+    (outside (ports_seen (g.P.Ports.Ports.calls c.args.ports.now) (g.P.Ports.Ports.journal c.args.ports.now))
+    (g.P.Output.Write.contents c.args.writer.now) c.args.self.now.server.printer c.args.self.now.server.journal)
+    (outside (ports_seen (g.P.Ports.Ports.calls c.loop.ports) (g.P.Ports.Ports.journal c.loop.ports))
+    (g.P.Output.Write.contents c.loop.writer) c.loop.self.server.printer c.loop.self.server.journal)
+    (outside (ports_seen (g.P.Ports.Ports.calls c.take_step.new.ports) (g.P.Ports.Ports.journal c.take_step.new.ports))
+    (g.P.Output.Write.contents c.take_step.new.writer) c.take_step.new.self.server.printer c.take_step.new.self.server.journal)
     (c.loop.invariant.done allowed is) c.in-Ok.ensures.begins (rw c.in_default-take_step.is at c.take_step.ensures.value)
 
 pub loop-preserved : goal.loop-preserved
@@ -76,12 +76,12 @@ loop-preserved g c =
           c.loop.self.schedule c.take_step.new.self.schedule c.loop.counter
           c.in-Ok.step before now after c.args.self.now.server.core.state c.loop.self.server.core.state
           c.take_step.new.self.server.core.state
-          (outside (ports_seen (g.P.Ports.calls c.args.ports.now) (g.P.Ports.journal c.args.ports.now))
-          (g.W.Write.contents c.args.writer.now) c.args.self.now.server.printer c.args.self.now.server.journal)
-          (outside (ports_seen (g.P.Ports.calls c.loop.ports) (g.P.Ports.journal c.loop.ports))
-          (g.W.Write.contents c.loop.writer) c.loop.self.server.printer c.loop.self.server.journal)
-          (outside (ports_seen (g.P.Ports.calls c.take_step.new.ports) (g.P.Ports.journal c.take_step.new.ports))
-          (g.W.Write.contents c.take_step.new.writer) c.take_step.new.self.server.printer c.take_step.new.self.server.journal)
+          (outside (ports_seen (g.P.Ports.Ports.calls c.args.ports.now) (g.P.Ports.Ports.journal c.args.ports.now))
+          (g.P.Output.Write.contents c.args.writer.now) c.args.self.now.server.printer c.args.self.now.server.journal)
+          (outside (ports_seen (g.P.Ports.Ports.calls c.loop.ports) (g.P.Ports.Ports.journal c.loop.ports))
+          (g.P.Output.Write.contents c.loop.writer) c.loop.self.server.printer c.loop.self.server.journal)
+          (outside (ports_seen (g.P.Ports.Ports.calls c.take_step.new.ports) (g.P.Ports.Ports.journal c.take_step.new.ports))
+          (g.P.Output.Write.contents c.take_step.new.writer) c.take_step.new.self.server.printer c.take_step.new.self.server.journal)
           (c.loop.invariant.done allowed is) begins (rw c.in-Ok-take_step.is at c.take_step.ensures.value);
     }
 
@@ -95,8 +95,8 @@ returns-clause-value g c allowed is =
     clock_fails c.args.self.now.server.printer.form c.args.setup.now allowed c.loop.counter c.loop.self.schedule
     before now now (g.K.Watch.Fails c.loop.watch)
     c.args.self.now.server.core.state c.loop.self.server.core.state
-    (outside (ports_seen (g.P.Ports.calls c.args.ports.now) (g.P.Ports.journal c.args.ports.now))
-    (g.W.Write.contents c.args.writer.now) c.args.self.now.server.printer c.args.self.now.server.journal)
-    (outside (ports_seen (g.P.Ports.calls c.loop.ports) (g.P.Ports.journal c.loop.ports))
-    (g.W.Write.contents c.loop.writer) c.loop.self.server.printer c.loop.self.server.journal)
+    (outside (ports_seen (g.P.Ports.Ports.calls c.args.ports.now) (g.P.Ports.Ports.journal c.args.ports.now))
+    (g.P.Output.Write.contents c.args.writer.now) c.args.self.now.server.printer c.args.self.now.server.journal)
+    (outside (ports_seen (g.P.Ports.Ports.calls c.loop.ports) (g.P.Ports.Ports.journal c.loop.ports))
+    (g.P.Output.Write.contents c.loop.writer) c.loop.self.server.printer c.loop.self.server.journal)
     (c.loop.invariant.done allowed is) (inr (inl (omega (arith, c.loop-test.false))))

@@ -10,17 +10,17 @@ loop-init g c = record {
   whole = c.requires.whole;
   few = omega (arith, c.requires.start);
   read = read_start c.args.setup.now (g.R.Read.remaining c.args.reader.now) c.args.self.now.partial
-      c.args.self.now.server.core.state (outside (ports_seen (g.P.Ports.calls c.args.ports.now) (g.P.Ports.journal c.args.ports.now))
-      (g.W.Write.contents c.args.writer.now) c.args.self.now.server.printer c.args.self.now.server.journal) c.requires.partial;
+      c.args.self.now.server.core.state (outside (ports_seen (g.P.Ports.Ports.calls c.args.ports.now) (g.P.Ports.Ports.journal c.args.ports.now))
+      (g.P.Output.Write.contents c.args.writer.now) c.args.self.now.server.printer c.args.self.now.server.journal) c.requires.partial;
 }
 
 pub returns-in_default-clause-value : goal.returns-in_default-clause-value
 returns-in_default-clause-value g c =
     takes_unread c.args.setup.now (g.R.Read.remaining c.args.reader.now) (g.R.Read.remaining c.loop.reader)
     (g.R.Read.remaining c.read_some.new.reader) c.loop.self.partial c.args.self.now.server.core.state
-    c.loop.self.server.core.state (outside (ports_seen (g.P.Ports.calls c.args.ports.now) (g.P.Ports.journal c.args.ports.now))
-    (g.W.Write.contents c.args.writer.now) c.args.self.now.server.printer c.args.self.now.server.journal) (outside (ports_seen (g.P.Ports.calls c.loop.ports) (g.P.Ports.journal c.loop.ports))
-    (g.W.Write.contents c.loop.writer) c.loop.self.server.printer c.loop.self.server.journal)
+    c.loop.self.server.core.state (outside (ports_seen (g.P.Ports.Ports.calls c.args.ports.now) (g.P.Ports.Ports.journal c.args.ports.now))
+    (g.P.Output.Write.contents c.args.writer.now) c.args.self.now.server.printer c.args.self.now.server.journal) (outside (ports_seen (g.P.Ports.Ports.calls c.loop.ports) (g.P.Ports.Ports.journal c.loop.ports))
+    (g.P.Output.Write.contents c.loop.writer) c.loop.self.server.printer c.loop.self.server.journal)
     c.in_default.ensures.value c.loop.invariant.read
 
 pub returns-in-Ok-finish-clause-value : goal.returns-in-Ok-finish-clause-value
@@ -28,12 +28,12 @@ returns-in-Ok-finish-clause-value g c =
     takes_end c.args.setup.now (g.R.Read.remaining c.args.reader.now) (g.R.Read.remaining c.loop.reader)
     (g.R.Read.remaining c.read_some.new.reader) c.loop.self.partial c.args.self.now.server.core.state
     c.loop.self.server.core.state c.finish.new.self.server.core.state
-    (outside (ports_seen (g.P.Ports.calls c.args.ports.now) (g.P.Ports.journal c.args.ports.now))
-    (g.W.Write.contents c.args.writer.now) c.args.self.now.server.printer c.args.self.now.server.journal)
-    (outside (ports_seen (g.P.Ports.calls c.loop.ports) (g.P.Ports.journal c.loop.ports))
-    (g.W.Write.contents c.loop.writer) c.loop.self.server.printer c.loop.self.server.journal)
-    (outside (ports_seen (g.P.Ports.calls c.finish.new.ports) (g.P.Ports.journal c.finish.new.ports))
-    (g.W.Write.contents c.finish.new.writer) c.finish.new.self.server.printer c.finish.new.self.server.journal)
+    (outside (ports_seen (g.P.Ports.Ports.calls c.args.ports.now) (g.P.Ports.Ports.journal c.args.ports.now))
+    (g.P.Output.Write.contents c.args.writer.now) c.args.self.now.server.printer c.args.self.now.server.journal)
+    (outside (ports_seen (g.P.Ports.Ports.calls c.loop.ports) (g.P.Ports.Ports.journal c.loop.ports))
+    (g.P.Output.Write.contents c.loop.writer) c.loop.self.server.printer c.loop.self.server.journal)
+    (outside (ports_seen (g.P.Ports.Ports.calls c.finish.new.ports) (g.P.Ports.Ports.journal c.finish.new.ports))
+    (g.P.Output.Write.contents c.finish.new.writer) c.finish.new.self.server.printer c.finish.new.self.server.journal)
     c.loop.invariant.read (rw c.in_default-read.is at c.in-Ok.ensures.value) c.finish.ensures.value
 
 pub returns-in-Err-clause-value : goal.returns-in-Err-clause-value
@@ -41,12 +41,12 @@ returns-in-Err-clause-value g c =
     takes_end_fault c.args.setup.now (g.R.Read.remaining c.args.reader.now) (g.R.Read.remaining c.loop.reader)
     (g.R.Read.remaining c.read_some.new.reader) c.loop.self.partial
     c.args.self.now.server.core.state c.loop.self.server.core.state c.finish.new.self.server.core.state
-    (outside (ports_seen (g.P.Ports.calls c.args.ports.now) (g.P.Ports.journal c.args.ports.now))
-    (g.W.Write.contents c.args.writer.now) c.args.self.now.server.printer c.args.self.now.server.journal)
-    (outside (ports_seen (g.P.Ports.calls c.loop.ports) (g.P.Ports.journal c.loop.ports))
-    (g.W.Write.contents c.loop.writer) c.loop.self.server.printer c.loop.self.server.journal)
-    (outside (ports_seen (g.P.Ports.calls c.finish.new.ports) (g.P.Ports.journal c.finish.new.ports))
-    (g.W.Write.contents c.finish.new.writer) c.finish.new.self.server.printer c.finish.new.self.server.journal)
+    (outside (ports_seen (g.P.Ports.Ports.calls c.args.ports.now) (g.P.Ports.Ports.journal c.args.ports.now))
+    (g.P.Output.Write.contents c.args.writer.now) c.args.self.now.server.printer c.args.self.now.server.journal)
+    (outside (ports_seen (g.P.Ports.Ports.calls c.loop.ports) (g.P.Ports.Ports.journal c.loop.ports))
+    (g.P.Output.Write.contents c.loop.writer) c.loop.self.server.printer c.loop.self.server.journal)
+    (outside (ports_seen (g.P.Ports.Ports.calls c.finish.new.ports) (g.P.Ports.Ports.journal c.finish.new.ports))
+    (g.P.Output.Write.contents c.finish.new.writer) c.finish.new.self.server.printer c.finish.new.self.server.journal)
     c.loop.invariant.read (rw c.in_default-read.is at c.in-Ok.ensures.value) c.loop.invariant.whole
     c.in-Err.ensures.failed c.finish.ensures.value
 
@@ -55,18 +55,18 @@ returns-in-Ok-true-clause-value g c =
     let read = rw c.in-Some.is at c.in-Ok.ensures.value in
     takes_quit c.args.setup.now (g.R.Read.remaining c.args.reader.now) (g.R.Read.remaining c.read_some.new.reader)
     c.take_bytes.new.self.partial c.args.self.now.server.core.state c.take_bytes.new.self.server.core.state
-    (outside (ports_seen (g.P.Ports.calls c.args.ports.now) (g.P.Ports.journal c.args.ports.now))
-    (g.W.Write.contents c.args.writer.now) c.args.self.now.server.printer c.args.self.now.server.journal)
-    (outside (ports_seen (g.P.Ports.calls c.take_bytes.new.ports) (g.P.Ports.journal c.take_bytes.new.ports))
-    (g.W.Write.contents c.take_bytes.new.writer) c.take_bytes.new.self.server.printer c.take_bytes.new.self.server.journal)
+    (outside (ports_seen (g.P.Ports.Ports.calls c.args.ports.now) (g.P.Ports.Ports.journal c.args.ports.now))
+    (g.P.Output.Write.contents c.args.writer.now) c.args.self.now.server.printer c.args.self.now.server.journal)
+    (outside (ports_seen (g.P.Ports.Ports.calls c.take_bytes.new.ports) (g.P.Ports.Ports.journal c.take_bytes.new.ports))
+    (g.P.Output.Write.contents c.take_bytes.new.writer) c.take_bytes.new.self.server.printer c.take_bytes.new.self.server.journal)
     (read_more c.args.setup.now (g.R.Read.remaining c.args.reader.now) (g.R.Read.remaining c.loop.reader)
     (g.R.Read.remaining c.read_some.new.reader) (take c.in-Some.n c.read_some.new.buffer) c.loop.self.partial
     c.take_bytes.new.self.partial (Ok true) c.args.self.now.server.core.state c.loop.self.server.core.state
-    c.take_bytes.new.self.server.core.state (outside (ports_seen (g.P.Ports.calls c.args.ports.now) (g.P.Ports.journal c.args.ports.now))
-    (g.W.Write.contents c.args.writer.now) c.args.self.now.server.printer c.args.self.now.server.journal) (outside (ports_seen (g.P.Ports.calls c.loop.ports) (g.P.Ports.journal c.loop.ports))
-    (g.W.Write.contents c.loop.writer) c.loop.self.server.printer c.loop.self.server.journal)
-    (outside (ports_seen (g.P.Ports.calls c.take_bytes.new.ports) (g.P.Ports.journal c.take_bytes.new.ports))
-    (g.W.Write.contents c.take_bytes.new.writer) c.take_bytes.new.self.server.printer c.take_bytes.new.self.server.journal)
+    c.take_bytes.new.self.server.core.state (outside (ports_seen (g.P.Ports.Ports.calls c.args.ports.now) (g.P.Ports.Ports.journal c.args.ports.now))
+    (g.P.Output.Write.contents c.args.writer.now) c.args.self.now.server.printer c.args.self.now.server.journal) (outside (ports_seen (g.P.Ports.Ports.calls c.loop.ports) (g.P.Ports.Ports.journal c.loop.ports))
+    (g.P.Output.Write.contents c.loop.writer) c.loop.self.server.printer c.loop.self.server.journal)
+    (outside (ports_seen (g.P.Ports.Ports.calls c.take_bytes.new.ports) (g.P.Ports.Ports.journal c.take_bytes.new.ports))
+    (g.P.Output.Write.contents c.take_bytes.new.writer) c.take_bytes.new.self.server.printer c.take_bytes.new.self.server.journal)
     c.loop.invariant.read read.1 (rw c.in-Ok-true.field-0-test at (rw c.in-Ok-true.is at c.take_bytes.ensures.value)))
 
 pub returns-in-Err-take_bytes-clause-value : goal.returns-in-Err-take_bytes-clause-value
@@ -74,18 +74,18 @@ returns-in-Err-take_bytes-clause-value g c =
     let read = rw c.in-Some.is at c.in-Ok.ensures.value in
     takes_broken c.args.setup.now (g.R.Read.remaining c.args.reader.now) (g.R.Read.remaining c.read_some.new.reader)
     c.take_bytes.new.self.partial c.in-Err-take_bytes.field-0 c.args.self.now.server.core.state
-    c.take_bytes.new.self.server.core.state (outside (ports_seen (g.P.Ports.calls c.args.ports.now) (g.P.Ports.journal c.args.ports.now))
-    (g.W.Write.contents c.args.writer.now) c.args.self.now.server.printer c.args.self.now.server.journal)
-    (outside (ports_seen (g.P.Ports.calls c.take_bytes.new.ports) (g.P.Ports.journal c.take_bytes.new.ports))
-    (g.W.Write.contents c.take_bytes.new.writer) c.take_bytes.new.self.server.printer c.take_bytes.new.self.server.journal)
+    c.take_bytes.new.self.server.core.state (outside (ports_seen (g.P.Ports.Ports.calls c.args.ports.now) (g.P.Ports.Ports.journal c.args.ports.now))
+    (g.P.Output.Write.contents c.args.writer.now) c.args.self.now.server.printer c.args.self.now.server.journal)
+    (outside (ports_seen (g.P.Ports.Ports.calls c.take_bytes.new.ports) (g.P.Ports.Ports.journal c.take_bytes.new.ports))
+    (g.P.Output.Write.contents c.take_bytes.new.writer) c.take_bytes.new.self.server.printer c.take_bytes.new.self.server.journal)
     (read_more c.args.setup.now (g.R.Read.remaining c.args.reader.now) (g.R.Read.remaining c.loop.reader)
     (g.R.Read.remaining c.read_some.new.reader) (take c.in-Some.n c.read_some.new.buffer) c.loop.self.partial
     c.take_bytes.new.self.partial (Err c.in-Err-take_bytes.field-0) c.args.self.now.server.core.state
-    c.loop.self.server.core.state c.take_bytes.new.self.server.core.state (outside (ports_seen (g.P.Ports.calls c.args.ports.now) (g.P.Ports.journal c.args.ports.now))
-    (g.W.Write.contents c.args.writer.now) c.args.self.now.server.printer c.args.self.now.server.journal)
-    (outside (ports_seen (g.P.Ports.calls c.loop.ports) (g.P.Ports.journal c.loop.ports))
-    (g.W.Write.contents c.loop.writer) c.loop.self.server.printer c.loop.self.server.journal) (outside (ports_seen (g.P.Ports.calls c.take_bytes.new.ports) (g.P.Ports.journal c.take_bytes.new.ports))
-    (g.W.Write.contents c.take_bytes.new.writer) c.take_bytes.new.self.server.printer c.take_bytes.new.self.server.journal)
+    c.loop.self.server.core.state c.take_bytes.new.self.server.core.state (outside (ports_seen (g.P.Ports.Ports.calls c.args.ports.now) (g.P.Ports.Ports.journal c.args.ports.now))
+    (g.P.Output.Write.contents c.args.writer.now) c.args.self.now.server.printer c.args.self.now.server.journal)
+    (outside (ports_seen (g.P.Ports.Ports.calls c.loop.ports) (g.P.Ports.Ports.journal c.loop.ports))
+    (g.P.Output.Write.contents c.loop.writer) c.loop.self.server.printer c.loop.self.server.journal) (outside (ports_seen (g.P.Ports.Ports.calls c.take_bytes.new.ports) (g.P.Ports.Ports.journal c.take_bytes.new.ports))
+    (g.P.Output.Write.contents c.take_bytes.new.writer) c.take_bytes.new.self.server.printer c.take_bytes.new.self.server.journal)
     c.loop.invariant.read read.1 (rw c.in-Err-take_bytes.is at c.take_bytes.ensures.value))
 
 pub loop-preserved : goal.loop-preserved
@@ -103,11 +103,11 @@ loop-preserved g c =
       read = read_more c.args.setup.now (g.R.Read.remaining c.args.reader.now) (g.R.Read.remaining c.loop.reader)
           (g.R.Read.remaining c.read_some.new.reader) (take c.in-Some.n c.read_some.new.buffer) c.loop.self.partial
           c.take_bytes.new.self.partial (Ok false) c.args.self.now.server.core.state c.loop.self.server.core.state
-          c.take_bytes.new.self.server.core.state (outside (ports_seen (g.P.Ports.calls c.args.ports.now) (g.P.Ports.journal c.args.ports.now))
-          (g.W.Write.contents c.args.writer.now) c.args.self.now.server.printer c.args.self.now.server.journal) (outside (ports_seen (g.P.Ports.calls c.loop.ports) (g.P.Ports.journal c.loop.ports))
-          (g.W.Write.contents c.loop.writer) c.loop.self.server.printer c.loop.self.server.journal)
-          (outside (ports_seen (g.P.Ports.calls c.take_bytes.new.ports) (g.P.Ports.journal c.take_bytes.new.ports))
-          (g.W.Write.contents c.take_bytes.new.writer) c.take_bytes.new.self.server.printer c.take_bytes.new.self.server.journal)
+          c.take_bytes.new.self.server.core.state (outside (ports_seen (g.P.Ports.Ports.calls c.args.ports.now) (g.P.Ports.Ports.journal c.args.ports.now))
+          (g.P.Output.Write.contents c.args.writer.now) c.args.self.now.server.printer c.args.self.now.server.journal) (outside (ports_seen (g.P.Ports.Ports.calls c.loop.ports) (g.P.Ports.Ports.journal c.loop.ports))
+          (g.P.Output.Write.contents c.loop.writer) c.loop.self.server.printer c.loop.self.server.journal)
+          (outside (ports_seen (g.P.Ports.Ports.calls c.take_bytes.new.ports) (g.P.Ports.Ports.journal c.take_bytes.new.ports))
+          (g.P.Output.Write.contents c.take_bytes.new.writer) c.take_bytes.new.self.server.printer c.take_bytes.new.self.server.journal)
           c.loop.invariant.read read.1 (rw c.in-Ok-false.field-0-test at (rw c.in-Ok-false.is at
           c.take_bytes.ensures.value));
     }
@@ -116,10 +116,10 @@ pub returns-clause-value : goal.returns-clause-value
 returns-clause-value g c =
     takes_enough c.args.setup.now (g.R.Read.remaining c.args.reader.now) (g.R.Read.remaining c.loop.reader)
     c.loop.self.partial c.args.self.now.server.core.state c.loop.self.server.core.state
-    (outside (ports_seen (g.P.Ports.calls c.args.ports.now) (g.P.Ports.journal c.args.ports.now))
-    (g.W.Write.contents c.args.writer.now) c.args.self.now.server.printer c.args.self.now.server.journal)
-    (outside (ports_seen (g.P.Ports.calls c.loop.ports) (g.P.Ports.journal c.loop.ports))
-    (g.W.Write.contents c.loop.writer) c.loop.self.server.printer c.loop.self.server.journal)
+    (outside (ports_seen (g.P.Ports.Ports.calls c.args.ports.now) (g.P.Ports.Ports.journal c.args.ports.now))
+    (g.P.Output.Write.contents c.args.writer.now) c.args.self.now.server.printer c.args.self.now.server.journal)
+    (outside (ports_seen (g.P.Ports.Ports.calls c.loop.ports) (g.P.Ports.Ports.journal c.loop.ports))
+    (g.P.Output.Write.contents c.loop.writer) c.loop.self.server.printer c.loop.self.server.journal)
     c.loop.invariant.read
 
 pub finish-requires-clause-few : goal.finish-requires-clause-few

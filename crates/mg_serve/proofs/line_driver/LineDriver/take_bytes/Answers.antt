@@ -11,8 +11,8 @@ loop-b-init g c = record {
   whole = c.requires.whole;
   few = omega arith;
   taken = λ partial is. bytes_start c.args.setup.now partial c.args.self.now.partial c.args.self.now.server.core.state
-      (outside (ports_seen (g.P.Ports.calls c.args.ports.now) (g.P.Ports.journal c.args.ports.now))
-      (g.W.Write.contents c.args.writer.now) c.args.self.now.server.printer c.args.self.now.server.journal) is;
+      (outside (ports_seen (g.P.Ports.Ports.calls c.args.ports.now) (g.P.Ports.Ports.journal c.args.ports.now))
+      (g.P.Output.Write.contents c.args.writer.now) c.args.self.now.server.printer c.args.self.now.server.journal) is;
 }
 
 pub loop-b-preserved-then-b-ne10 : goal.loop-b-preserved-then-b-ne10
@@ -21,10 +21,10 @@ loop-b-preserved-then-b-ne10 g c = record {
   few = omega (arith, c.loop-b.invariant.few);
   taken = λ partial is.
       index_plain c.args.setup.now partial c.args.bytes.now c.loop-b.self.partial c.push.new.self c.loop-b.b-index
-      c.args.self.now.server.core.state c.loop-b.self.server.core.state (outside (ports_seen (g.P.Ports.calls c.args.ports.now) (g.P.Ports.journal c.args.ports.now))
-      (g.W.Write.contents c.args.writer.now) c.args.self.now.server.printer c.args.self.now.server.journal)
-      (outside (ports_seen (g.P.Ports.calls c.loop-b.ports) (g.P.Ports.journal c.loop-b.ports))
-      (g.W.Write.contents c.loop-b.writer) c.loop-b.self.server.printer c.loop-b.self.server.journal)
+      c.args.self.now.server.core.state c.loop-b.self.server.core.state (outside (ports_seen (g.P.Ports.Ports.calls c.args.ports.now) (g.P.Ports.Ports.journal c.args.ports.now))
+      (g.P.Output.Write.contents c.args.writer.now) c.args.self.now.server.printer c.args.self.now.server.journal)
+      (outside (ports_seen (g.P.Ports.Ports.calls c.loop-b.ports) (g.P.Ports.Ports.journal c.loop-b.ports))
+      (g.P.Output.Write.contents c.loop-b.writer) c.loop-b.self.server.printer c.loop-b.self.server.journal)
       c.loop-b-test.true c.if-b-ne10.true c.push.ensures.value (c.loop-b.invariant.taken partial is);
 }
 
@@ -35,10 +35,10 @@ loop-b-preserved g c = record {
   taken = λ partial is.
       index_feed c.args.setup.now partial c.args.bytes.now c.loop-b.self.partial c.end_line.new.self.partial c.loop-b.b-index
       false c.args.self.now.server.core.state c.loop-b.self.server.core.state c.end_line.new.self.server.core.state
-      (outside (ports_seen (g.P.Ports.calls c.args.ports.now) (g.P.Ports.journal c.args.ports.now))
-      (g.W.Write.contents c.args.writer.now) c.args.self.now.server.printer c.args.self.now.server.journal) (outside (ports_seen (g.P.Ports.calls c.loop-b.ports) (g.P.Ports.journal c.loop-b.ports))
-      (g.W.Write.contents c.loop-b.writer) c.loop-b.self.server.printer c.loop-b.self.server.journal) (outside (ports_seen (g.P.Ports.calls c.end_line.new.ports) (g.P.Ports.journal c.end_line.new.ports))
-      (g.W.Write.contents c.end_line.new.writer) c.end_line.new.self.server.printer c.end_line.new.self.server.journal)
+      (outside (ports_seen (g.P.Ports.Ports.calls c.args.ports.now) (g.P.Ports.Ports.journal c.args.ports.now))
+      (g.P.Output.Write.contents c.args.writer.now) c.args.self.now.server.printer c.args.self.now.server.journal) (outside (ports_seen (g.P.Ports.Ports.calls c.loop-b.ports) (g.P.Ports.Ports.journal c.loop-b.ports))
+      (g.P.Output.Write.contents c.loop-b.writer) c.loop-b.self.server.printer c.loop-b.self.server.journal) (outside (ports_seen (g.P.Ports.Ports.calls c.end_line.new.ports) (g.P.Ports.Ports.journal c.end_line.new.ports))
+      (g.P.Output.Write.contents c.end_line.new.writer) c.end_line.new.self.server.printer c.end_line.new.self.server.journal)
       c.loop-b-test.true c.if-b-ne10.false (c.loop-b.invariant.taken partial is)
       (sym c.if-branch.false ∙ c.in_ok-end_line.ensures.quit) c.in_ok-end_line.ensures.partial c.end_line.ensures.value;
 }
@@ -55,10 +55,10 @@ returns-then-branch g c = record {
       λ partial is.
       index_quit c.args.setup.now partial c.args.bytes.now c.loop-b.self.partial c.end_line.new.self.partial c.loop-b.b-index
       c.args.self.now.server.core.state c.loop-b.self.server.core.state c.end_line.new.self.server.core.state
-      (outside (ports_seen (g.P.Ports.calls c.args.ports.now) (g.P.Ports.journal c.args.ports.now))
-      (g.W.Write.contents c.args.writer.now) c.args.self.now.server.printer c.args.self.now.server.journal) (outside (ports_seen (g.P.Ports.calls c.loop-b.ports) (g.P.Ports.journal c.loop-b.ports))
-      (g.W.Write.contents c.loop-b.writer) c.loop-b.self.server.printer c.loop-b.self.server.journal) (outside (ports_seen (g.P.Ports.calls c.end_line.new.ports) (g.P.Ports.journal c.end_line.new.ports))
-      (g.W.Write.contents c.end_line.new.writer) c.end_line.new.self.server.printer c.end_line.new.self.server.journal)
+      (outside (ports_seen (g.P.Ports.Ports.calls c.args.ports.now) (g.P.Ports.Ports.journal c.args.ports.now))
+      (g.P.Output.Write.contents c.args.writer.now) c.args.self.now.server.printer c.args.self.now.server.journal) (outside (ports_seen (g.P.Ports.Ports.calls c.loop-b.ports) (g.P.Ports.Ports.journal c.loop-b.ports))
+      (g.P.Output.Write.contents c.loop-b.writer) c.loop-b.self.server.printer c.loop-b.self.server.journal) (outside (ports_seen (g.P.Ports.Ports.calls c.end_line.new.ports) (g.P.Ports.Ports.journal c.end_line.new.ports))
+      (g.P.Output.Write.contents c.end_line.new.writer) c.end_line.new.self.server.printer c.end_line.new.self.server.journal)
       c.loop-b-test.true c.if-b-ne10.false (c.loop-b.invariant.taken partial is)
       (sym c.if-branch.true ∙ c.in_ok-end_line.ensures.quit) c.in_ok-end_line.ensures.partial
       c.end_line.ensures.value;
@@ -76,11 +76,11 @@ returns-in_err-end_line g c = record {
       let p = err_from_is_err_and c.from_residual.result c.from_residual.ensures.1 in
       rw p.1 (index_fault c.args.setup.now partial c.args.bytes.now c.loop-b.self.partial c.end_line.new.self.partial
       c.loop-b.b-index _ c.args.self.now.server.core.state c.loop-b.self.server.core.state
-      c.end_line.new.self.server.core.state (outside (ports_seen (g.P.Ports.calls c.args.ports.now) (g.P.Ports.journal c.args.ports.now))
-      (g.W.Write.contents c.args.writer.now) c.args.self.now.server.printer c.args.self.now.server.journal) (outside (ports_seen (g.P.Ports.calls c.loop-b.ports) (g.P.Ports.journal c.loop-b.ports))
-      (g.W.Write.contents c.loop-b.writer) c.loop-b.self.server.printer c.loop-b.self.server.journal)
-      (outside (ports_seen (g.P.Ports.calls c.end_line.new.ports) (g.P.Ports.journal c.end_line.new.ports))
-      (g.W.Write.contents c.end_line.new.writer) c.end_line.new.self.server.printer c.end_line.new.self.server.journal)
+      c.end_line.new.self.server.core.state (outside (ports_seen (g.P.Ports.Ports.calls c.args.ports.now) (g.P.Ports.Ports.journal c.args.ports.now))
+      (g.P.Output.Write.contents c.args.writer.now) c.args.self.now.server.printer c.args.self.now.server.journal) (outside (ports_seen (g.P.Ports.Ports.calls c.loop-b.ports) (g.P.Ports.Ports.journal c.loop-b.ports))
+      (g.P.Output.Write.contents c.loop-b.writer) c.loop-b.self.server.printer c.loop-b.self.server.journal)
+      (outside (ports_seen (g.P.Ports.Ports.calls c.end_line.new.ports) (g.P.Ports.Ports.journal c.end_line.new.ports))
+      (g.P.Output.Write.contents c.end_line.new.writer) c.end_line.new.self.server.printer c.end_line.new.self.server.journal)
       c.loop-b-test.true c.if-b-ne10.false (c.loop-b.invariant.taken partial is) c.loop-b.invariant.whole
       c.in_err-end_line.ensures.failed
       c.end_line.ensures.value);

@@ -10,9 +10,9 @@ invariant-loop-b g l = record {
   few : l.self.server.journal.lacking ≤ l.initial.self.server.journal.lacking + l.b-index;
   taken : (partial : List ℕ) → l.initial.self.partial ≡ take 8 partial →
       LeadsByTrace l.initial.self.server.core.state l.self.server.core.state
-      (outside (ports_seen (g.P.Ports.calls l.initial.ports) (g.P.Ports.journal l.initial.ports))
-      (g.W.Write.contents l.initial.writer) l.initial.self.server.printer l.initial.self.server.journal)
-      (outside (ports_seen (g.P.Ports.calls l.ports) (g.P.Ports.journal l.ports)) (g.W.Write.contents l.writer)
+      (outside (ports_seen (g.P.Ports.Ports.calls l.initial.ports) (g.P.Ports.Ports.journal l.initial.ports))
+      (g.P.Output.Write.contents l.initial.writer) l.initial.self.server.printer l.initial.self.server.journal)
+      (outside (ports_seen (g.P.Ports.Ports.calls l.ports) (g.P.Ports.Ports.journal l.ports)) (g.P.Output.Write.contents l.writer)
       l.self.server.printer l.self.server.journal)
       (BytesTaken l.initial.self.server.printer.form l.setup partial (take l.b-index l.bytes) l.self.partial (Ok false));
 }

@@ -1,4 +1,4 @@
--- A request whose commands are all rejected.
+-- A request whose commands are all refused.
 use Rattle.std.proofs.lemmas.Bool.{and_parts}
 use Rattle.std.proofs.Common.{◌≡◌, ℕ, Bool, ◌&&◌, ◌||◌, not, true, false, List, [], ◌∷◌, ◌++◌, map, Option, Some, None, Result, Ok, Err, refl, sym, ap, subst, ◌∙◌, if◌then◌else◌}
 use Rattle.std.specs.List.{list_all, list_any}
@@ -182,7 +182,7 @@ commands_keep source (c ∷ cs) run h =
 abbrev is_needed : Command → Bool
 is_needed c = not c.is_optional
 
--- If all tried commands were rejected and none of them ended the action, all of them are optional.
+-- If all tried commands were refused and none of them ended the action, all of them are optional.
 optional_at : (source : List ℕ) (c : Command) (cs : List Command) (x : ActionState × Bool) (b : Bool) →
     c.is_optional ≡ b
     → (tells x.0.items ≡ false → x.1 ≡ false) → ((s : ActionState) → Keeps s (with_commands source cs s).0)

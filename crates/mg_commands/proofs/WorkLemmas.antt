@@ -34,7 +34,8 @@ four_each : (b : Bool) (x y : ℕ) → RisesAtMost (if b then 4 else 0) x y → 
 four_each true x y h = h
 four_each false x y h = h
 
--- After one more command, the bound on the work still holds.
+-- After one more command, the bound on the work still holds if the command costs at most four rows, or none if it isn't
+-- an edit.
 pub paid_one : (base : Base) (xs : List Item) (word : CommandWord) (term : List ℕ) (parts : Parts)
     (old new : EngineState) → IsPaid base xs old →
     RisesAtMost (if is_edit word then 4 else 0) old.sums.work new.sums.work →

@@ -27,7 +27,7 @@ abbrev pub mode_in : Part → Option Mode
 mode_in (Control n (controls.Mode mode)) = Some mode
 mode_in _ = None
 
--- The depth, in frames of 20 ms, of a play list that holds this many milliseconds.
+-- The depth, in frames of 20 ms, of a play list that holds this many milliseconds, rounded up.
 abbrev pub frames_for : ℕ → ℕ
 frames_for jitter = (jitter + 19) / 20
 

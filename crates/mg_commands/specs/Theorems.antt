@@ -1,4 +1,4 @@
--- Properties of every transaction: rejected commands change nothing, and consistency is preserved.
+-- Properties of every transaction: refused commands change nothing, and consistency is preserved.
 use Rattle.std.specs.Prelude.{◌≡◌, ℕ, Bool, true, false, not, ◌||◌, List, ◌∷◌, Some}
 use Rattle.std.specs.Prelude.{None, Err}
 use Rattle.std.specs.List.{fold, list_all, list_any}
@@ -21,9 +21,9 @@ use Rattle.mg_commands.specs.Transaction.{TransactionState, replied, with_item, 
 use Rattle.mg_commands.specs.Transaction.{with_name, with_command, unless_optional, with_commands}
 use Rattle.mg_commands.specs.Transaction.{with_action, closed}
 
--- ## Rejections
+-- ## Refusals
 
--- If a command is rejected for one of the terminations that it names, the reply gets an item with the error, and the
+-- If a command is refused for one of the terminations that it names, the reply gets an item with the error, and the
 -- transaction counts as stopped. Nothing else changes.
 abbrev pub RefusedNamesChangeNothing : Type 0
 RefusedNamesChangeNothing =
@@ -51,7 +51,8 @@ RefusedActionsChangeNothing =
     → with_action source s a
     ≡ with_item (with_error s (replies.Fault e)) (replies.Action a.context)
 
--- An action whose topology is rejected after its commands changes nothing except through its commands.
+-- If an action's topology is refused after its commands, the effects of these commands remain. The reply gets the error
+-- and the end of the action, and the transaction stops. Nothing else changes.
 abbrev pub RefusedTopologiesChangeNothing : Type 0
 RefusedTopologiesChangeNothing =
     (source : List ℕ) (a : Action) (s after : TransactionState) (e : ErrorNumber)
@@ -60,8 +61,8 @@ RefusedTopologiesChangeNothing =
     → context_outcome source after.made a.properties after.gateway after.target ≡ Err e
     → with_action source s a ≡ closed (with_error after (replies.Fault e))
 
--- If a command is rejected for one of its names, it is still tried for the other names, on the same gateway. The
--- command counts as failed.
+-- If a command is refused for one of its names, it is still tried for the other names, on the same gateway. The command
+-- counts as failed.
 abbrev pub OthersAreTried : Type 0
 OthersAreTried =
     (source : List ℕ) (c : Command) (parameters : CommandParameters) (x : Name) (xs : List Name)
@@ -83,7 +84,7 @@ abbrev pub depends_on_commands : Action → Bool
 depends_on_commands a =
     not (list_any is_topology a.properties) || list_any (λ c. not c.is_optional) a.commands
 
--- If all commands that a request tried were rejected, and each action depends on its commands, the request leaves the
+-- If all commands that a request tried were refused, and each action depends on its commands, the request leaves the
 -- gateway unchanged.
 abbrev pub RefusedRequestsChangeNothing : Type 0
 RefusedRequestsChangeNothing =

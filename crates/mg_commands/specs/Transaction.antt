@@ -90,7 +90,7 @@ id_of targets.Null = contexts.Null
 id_of targets.New = contexts.Choose
 id_of (targets.Number n) = contexts.Number n
 
--- The state after the properties of an action are applied and answered, or rejected.
+-- The state after the properties of an action are applied and answered, or refused.
 abbrev pub after_properties : TransactionState → Result (Gateway × List Item) ErrorNumber
     → TransactionState
 after_properties s (Ok p) = record s { gateway = p.0; items = s.items ++ p.1 }
@@ -109,7 +109,8 @@ with_properties source a s =
 abbrev pub closed : TransactionState → TransactionState
 closed s = with_item s (replies.Action (id_of s.target))
 
--- An action: its commands and then its properties, unless the action is rejected as a whole.
+-- An action, unless it is rejected as a whole: its commands and then, unless the transaction has stopped, its
+-- properties.
 unfoldable pub with_action : List ℕ → TransactionState → Action → TransactionState
 with_action source s a =
     if s.has_stopped then s

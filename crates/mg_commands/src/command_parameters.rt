@@ -24,7 +24,7 @@ pub struct CommandParameters {
     pub audits_statistics: bool,
 }
 
-/// Returns the depth, in frames of 20 ms, of a play list that holds this many milliseconds.
+/// Returns the depth, in frames of 20 ms, of a play list that holds this many milliseconds, rounded up.
 fn frames_for(jitter: u16) -> u16
     ensures value { result ≡ frames_for jitter }
 {

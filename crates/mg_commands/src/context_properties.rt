@@ -108,7 +108,8 @@ fn answer_audit(engine: &Engine, properties: &[ContextProperty], context: u32, r
     }
 }
 
-/// Applies the properties of an action. Returns whether the properties were applied.
+/// Applies an action's triples, and then answers its audit. If the triples can't be applied, reports the error instead,
+/// and returns false.
 pub fn try_properties(
     engine: &mut Engine,
     source: &[u8],

@@ -1,4 +1,6 @@
-//! Reads a command's descriptors in one walk, which finds the first fault and collects the command's parameters.
+//! Reads a command's descriptors in one walk, which finds the first fault and collects the command's parameters. The
+//! functions return a fault of a descriptor: a repeated word, or unsupported content. A fault in a stream's number or
+//! in a property is stored in the findings.
 
 ghost use Rattle.std.specs.Prelude.{[], ◌∷◌};
 ghost use Rattle.std.specs.List.{flat_map};
@@ -17,7 +19,7 @@ use crate::repeats::{
 };
 use mg_text::{ControlPart, Descriptor, ErrorNumber, MediaPart, StreamPart};
 
-/// Reads a stream's LocalControl. Returns its first fault, if any.
+/// Reads a stream's LocalControl. Returns an error if a part is repeated that must not be.
 fn read_controls(
     source: &[u8],
     stream: u32,
@@ -139,7 +141,8 @@ fn read_descriptor(
     }
 }
 
-/// Reads a command's descriptors. Returns the first fault in them, if any: a repeated word, or unsupported content.
+/// Reads a command's descriptors. Returns the first fault of a descriptor, if any: a repeated word, or unsupported
+/// content.
 pub fn read_descriptors(
     source: &[u8],
     descriptors: &[Descriptor],

@@ -49,7 +49,8 @@ impl Findings {
         }
     }
 
-    /// Adds a part, unless it is faulty: it repeats a word, or its content is unsupported. Returns the fault, if any.
+    /// Adds a part as `add` does, unless it is faulty: it repeats a word, or its content is unsupported. Returns this
+    /// fault, if any.
     pub fn add_sound(&mut self, source: &[u8], appeared: bool, part: Part) -> Option<ErrorNumber>
         ensures reads { Reads source.now (fault_of appeared part) (part ∷ []) self.old self.new result }
     {
@@ -60,7 +61,7 @@ impl Findings {
         fault
     }
 
-    /// Adds a part of a LocalControl, unless it repeats a word. Returns the fault, if any.
+    /// Adds a part of a LocalControl as `add` does, unless it repeats a word. Returns the error if it does.
     ///
     /// A message can contain about 2,000 properties, so a part that follows a fault is not even copied.
     pub fn add_control(

@@ -2,9 +2,9 @@
 //!
 //! See RFC 3525, section 8.
 //!
-//! A [`Request`](mg_text::Request) refers to parts of its message by spans, so [`transaction`] needs the message too.
-//! It runs the commands on an [`Engine`](mg_engine::Engine), puts their outcomes into a [`Reply`](mg_reply::Reply), and
-//! does not allocate:
+//! A [`Request`](mg_text::Request) refers to parts of its message by spans, so [`transaction`] takes the message too.
+//! This function runs the commands on an [`Engine`](mg_engine::Engine), puts their outcomes into a
+//! [`Reply`](mg_reply::Reply), and does not allocate:
 //!
 //! ```rust
 //! transaction(&mut engine, source, &request, &mut reply);
@@ -12,7 +12,7 @@
 //! ```
 //!
 //! Commands are tried in order, action by action, up to the first non-optional command that fails. Commands that were
-//! not tried are not reported. Except for a command on `*`, a rejected command leaves the engine unchanged. An action's
+//! not tried are not reported. Except for a command on `*`, a refused command leaves the engine unchanged. An action's
 //! Topology and ContextAudit are processed after its commands, unless a command failed and ended the action.
 //!
 //! A Modify, Subtract or AuditValue on `*` (RFC 3525, section 6.2.2) is tried on each current member of the action's

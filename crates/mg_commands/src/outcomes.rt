@@ -182,7 +182,7 @@ fn audit_outcome(
     }
 }
 
-/// Runs a command for one name. The command's text has already been checked. A rejected command changes nothing.
+/// Runs a command for one name. The command's text has already been checked. A refused command changes nothing.
 #[tactic(auto, unfolding(crate::specs::Outcome::outcome))]
 pub fn outcome(
     engine: &mut Engine,

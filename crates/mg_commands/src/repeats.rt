@@ -89,7 +89,7 @@ fn appears_among(source: &[u8], part: &Part, stream: u32, parts: &[StreamPart]) 
         .any(|other| is_same_word(source, part, stream, other))
 }
 
-/// Returns whether a `MediaPart` repeats `part` in the stream with this number.
+/// Returns whether `part` occurs in a `MediaPart`, in the stream with this number.
 ///
 /// The streams' numbers are compared first, because a message can contain about 700 streams.
 fn appears_in(source: &[u8], part: &Part, stream: u32, other: &MediaPart) -> bool
@@ -104,7 +104,7 @@ fn appears_in(source: &[u8], part: &Part, stream: u32, other: &MediaPart) -> boo
     }
 }
 
-/// Returns whether any of the given `MediaPart`s repeats `part` in the stream with this number.
+/// Returns whether `part` occurs in any of the given `MediaPart`s, in the stream with this number.
 fn appears_in_any(source: &[u8], part: &Part, stream: u32, media: &[MediaPart]) -> bool
     ensures value { result ≡ list_any (appears_in source.now part.now stream) media.now }
 {

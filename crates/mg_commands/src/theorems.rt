@@ -5,13 +5,14 @@
 ghost use Rattle.mg_commands.specs.aids.Agreement.{RequestsKeepAgreement};
 ghost use Rattle.mg_commands.specs.Theorems.{RefusedNamesChangeNothing, RefusedCommandsChangeNothing, RefusedActionsChangeNothing, RefusedTopologiesChangeNothing, OthersAreTried, RefusedRequestsChangeNothing, RequestsAreConsistent};
 
-/// A rejection changes only the reply, which reports the error.
+/// A refusal changes only the reply, which reports the error.
 ///
 /// The gateway, the action's context and the meaning of `$` are unchanged. This holds for a command on one termination,
-/// and for a command that cannot be tried at all. It also holds for an action that is rejected before its commands are
-/// tried. If an action's topology is rejected, the effects of its commands remain. If a command for all members (`*`)
-/// is rejected for one member, it is still tried for the others. So a request leaves the gateway unchanged if each
-/// command that was tried was rejected. Each action with a topology must then have a command that isn't optional.
+/// and for a command that cannot be tried at all. It also holds for an action that is rejected as a whole, before its
+/// commands are tried. If an action's topology is refused, the effects of its commands remain. If a command for all
+/// members (`*`) is refused for one member, it is still tried for the others. So a request leaves the gateway unchanged
+/// if each command that was tried was refused. For this, each action with a topology must have a command that isn't
+/// optional.
 pub fn refused_commands_change_nothing()
     ensures names { RefusedNamesChangeNothing }
     ensures commands { RefusedCommandsChangeNothing }
@@ -31,8 +32,7 @@ pub fn requests_are_consistent()
     mg_engine::theorems::worlds_are_consistent();
 }
 
-/// If two gateways agree except on some terminations, they still agree on everything else after running the same
-/// request.
+/// If two gateways differ only in what some terminations received, this is still so after running the same request.
 ///
 /// The replies can differ only in the counts of received packets and octets.
 pub fn requests_keep_agreement()

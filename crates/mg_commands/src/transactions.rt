@@ -249,11 +249,11 @@ fn try_actions(engine: &mut Engine, source: &[u8], actions: &[Action], reply: &m
 
 /// Empties the reply, runs a request from the message `source`, and puts the outcomes of its commands into the reply.
 ///
-/// Commands are tried in order, up to the first command that fails. A command for all members (`*`) is tried on every
-/// member, and fails if it fails for any member. If an optional command (`O-`) fails, the next commands are still
-/// tried. Unless a command has ended the action, its triples are then applied, all or none, and its audit is answered.
-/// An action that is rejected as a whole, before or after its commands, ends the request even if its commands are
-/// optional.
+/// Commands are tried in order, up to the first non-optional command that fails. A command for all members (`*`) is
+/// tried on every member, and fails if it fails for any member. If an optional command (`O-`) fails, the next commands
+/// are still tried. Unless a command has ended the action, its triples are then applied, all or none, and its audit is
+/// answered. An action that is rejected as a whole, before or after its commands, ends the request even if its commands
+/// are optional.
 pub fn transaction(engine: &mut Engine, source: &[u8], request: &Request, reply: &mut Reply)
     requires proper { request_is_proper source.now request.now ≡ true }
     ensures ran { Leads StandsFor engine.old engine.new (λ w next. ((replied source.now request.now w).gateway ≡ next)
@@ -266,7 +266,7 @@ pub fn transaction(engine: &mut Engine, source: &[u8], request: &Request, reply:
     ensures ended { (w : Gateway) → (is_refusal (replied source.now request.now w).items
         || last_is_action false (replied source.now request.now w).items) ≡ true }
 
-    // The cost is at most four rows for each edit applied. Rejected commands, audits and triples cost none.
+    // The cost is at most four rows for each edit applied. Refused commands, audits and triples cost none.
     ensures work { (w : Gateway) → StandsFor engine.old w →
         RisesAtMost (4 * edits_reported (replied source.now request.now w).items) engine.old.sums.work
         engine.new.sums.work }

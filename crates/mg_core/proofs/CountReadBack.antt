@@ -58,7 +58,7 @@ unfolding events_of
 events_of_ticks zero = refl
 events_of_ticks (suc k) = rw (tick_read, events_of_ticks k) refl
 
--- Where ticks are counted, the line for `n` ticks is read as `n` ticks.
+-- Where ticks are counted, the line for `n` ticks is read as `n` ticks. `n` is not 0, and has at most 64 bits.
 pub count_is_ticks : (n : ℕ) → 0 < n → n < 2 ^ 64 →
     events_of (expanded true (lines_of true (ticks_line n))) ≡ Some (replicate n Tick)
 count_is_ticks n some small =

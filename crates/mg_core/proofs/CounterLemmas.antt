@@ -3,7 +3,7 @@ use Rattle.std.proofs.Common.{◌≡◌, ℕ, zero, suc, ◌+◌, ◌<◌, List,
 use Rattle.std.specs.Prelude.{slice_index, slice_set}
 use Rattle.mg_core.specs.World.{capped, one_more_at}
 
--- The counters after counter `k` was increased by one.
+-- The counters after counter `k` was increased by one, unless it had reached its maximum.
 abbrev pub raised : ℕ → List ℕ → List ℕ
 raised k counts = slice_set counts k (capped (slice_index counts k + 1))
 

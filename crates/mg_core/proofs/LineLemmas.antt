@@ -76,7 +76,7 @@ silent_steps event old new n m a same h w stands =
     let (next, step, left) = h w stands in
     (next, silent_ran event w next n m a step same, left)
 
--- After a control datagram is answered, the line for its answer is written.
+-- After a control datagram is answered, the line for its answer is written, completely or in part.
 pub answer_steps : (source : Peer) (bytes text line : List ℕ) (old new : CoreState) (n m : ℕ) (a b : Option (List ℕ))
     (r : Result (Unit {0}) WriteFailed) → Leads StandsFor old new
     (λ w next. Step w (Control source bytes) (answer_to source (Some text)) next) → line ≡ answer_line source text →
@@ -91,7 +91,7 @@ answer_steps source bytes text line old new n m a b r h is put more w stands =
       left,
     )
 
--- After a tick, a line for each of its packets is written.
+-- After a tick, a line for each of its packets is written, or only a part of these lines.
 pub tick_steps : (old new : CoreState) (outbox : List Datagram) (text : List ℕ) (n m : ℕ) (a b : Option (List ℕ))
     (r : Result (Unit {0}) WriteFailed) → ((w : World) → StandsFor old w → outbox ≡ packets_of w) →
     ((w : World) → StandsFor old w → StandsFor new (world_after_tick w)) → text ≡ lines_for (map Packet outbox) →

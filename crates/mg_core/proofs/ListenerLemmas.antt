@@ -102,7 +102,8 @@ not_taken p rs i r ns lt is away h =
     h ∙ sym (one_more p rs i r lt is ∙ ap (λ b. filter p (map (λ x. x.number) (take i rs)) ++
     cond b (r.number ∷ []) []) away ∙ append-nil (filter p (map (λ x. x.number) (take i rs))))
 
--- If the next termination's speech flows to the listener, there is room to store it as a talker.
+-- If the next termination's speech flows to the listener, there is room to store this termination as a talker, and it
+-- is stored.
 pub is_taken : {E : Type 0} (p : ℕ → Bool) (rs : List Record) (i : ℕ) (r : Record) (ns new : List ℕ)
     (pushed : Result (Unit {0}) E) → i < length rs → get_or rs i r ≡ r → p r.number ≡ true →
     length (filter p (map (λ x. x.number) rs)) ≤ member_limit → ns ≡ filter p (map (λ x. x.number) (take i rs)) →

@@ -21,7 +21,7 @@ use Rattle.mg_core.specs.Recording.{Happened, IsDatagram, IsRecorded}
 
 -- ## Tests that all bytes pass
 
--- If all bytes of some text and 0 pass a test, the byte at any index passes it. The byte after the end counts as 0.
+-- If all bytes of some text and 0 pass a test, the byte at any index passes it. A byte after the end counts as 0.
 pub at_passes : (p : ℕ → Bool) (xs : List ℕ) (i : ℕ) → p 0 ≡ true → list_all p xs ≡ true → p (slice_index xs i) ≡ true
 at_passes p [] i z h = z
 at_passes p (x ∷ xs) zero z h = (and_parts (p x) (list_all p xs) h).0

@@ -133,7 +133,7 @@ kept_in : (state : CoreState) (w : World) (sender : List ℕ) (n : ℕ) (o : Opt
     kept_text state.kept sender n ≡ o → kept_text w.replies sender n ≡ o
 kept_in state w sender n o h is = ap (λ (l : List KeptReply). kept_text l sender n) h.replies ∙ is
 
--- A retransmitted request is answered with the kept reply.
+-- A request whose reply is kept is answered with this reply.
 pub request_again : (source sender : List ℕ) (request : Request) (state : CoreState) (before reported text : List ℕ) →
     kept_text state.kept sender request.number ≡ Some reported
     → text ≡ before ++ reported → TextGrows state state before text (request_replied source sender request)

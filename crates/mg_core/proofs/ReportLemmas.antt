@@ -1,4 +1,4 @@
--- The report of changes determines the state after them.
+-- The state before some changes and the report of these changes determine the state after them.
 use Rattle.std.proofs.Common.{◌≡◌, ◌==◌, ◌∙◌, ℕ, suc, ◌<◌, ◌≤◌, Bool, true, false, cond, List, [], ◌∷◌, ◌++◌, Option, Some, None, All, flat_map, get_or, map, length, refl, sym, ap, subst, arith}
 use Rattle.std.specs.Prelude.{is_some}
 use Rattle.std.specs.List.{AllPairs}

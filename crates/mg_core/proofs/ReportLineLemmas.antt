@@ -188,7 +188,7 @@ line_same ticks e f rest others h k same =
     let is = said_same e.said f.said h.said k.said said.0 in
     (λ i. record { number = number.0 i; said = is i }, said.1)
 
--- If the lines of two lists of entries are equal, so are the entries.
+-- If two lists of entries with numbers of at most 64 bits have equal lines, the entries are equal too.
 pub lines_same : (ticks : ℕ) (es fs : List Entry) → All IsShortEntry es → All IsShortEntry fs →
     flat_map (line_of ticks) es ≡ flat_map (line_of ticks) fs → es ≡ fs
 lines_same ticks [] [] h k same = refl

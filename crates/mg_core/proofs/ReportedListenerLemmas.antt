@@ -161,7 +161,7 @@ rebuilt_own n (Some old) y e number none =
       talkers = talkers i;
     }))
 
--- If a termination still exists, there is no entry that it ended.
+-- If a termination still exists, no entry says that it ended.
 not_ended : (n : ℕ) (y : Listener) (after xs : List Listener) → listener_at after n ≡ Some y →
     first (about n is_end) (flat_map (old_entries after) xs) ≡ None
 not_ended n y after [] is = refl
@@ -177,7 +177,7 @@ not_ended n y after (x ∷ xs) is =
         (ap (listener_at after) (eqb-true x.number n same) ∙ is)
     by_test false other = neither (is_some (listener_at after x.number)) None refl
 
--- If a termination no longer exists, there is an entry that it ended.
+-- If a termination no longer exists, an entry says that it ended.
 has_ended : (n : ℕ) (old : Listener) (after xs : List Listener) → listener_at after n ≡ None →
     listener_at xs n ≡ Some old → first (about n is_end) (flat_map (old_entries after) xs) ≡ Some tt
 has_ended n old after [] none was = absurd (cc was)

@@ -93,7 +93,7 @@ texts_both shows.Sent w v u es fs a b s t h k =
     ap (λ (l : List ℕ). l ++ t) h ∙ ap (λ (l : List ℕ). lines_for a ++ l) k ∙ sym (lines_both a b)
 texts_both shows.SentAndFlows w v u es fs a b s t h k = tells_both w v u es fs s t h k
 
--- The runner's state represents the world, and the runner stores the world's terminations.
+-- The runner's state represents the world. If changes are shown, the runner stores the world's terminations.
 abbrev pub Followed : Shown → LineRunner → World → Type 0
 Followed shown r w = Follows shown r.core.state r.watched w
 

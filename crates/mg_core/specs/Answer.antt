@@ -83,7 +83,8 @@ item_replied source sender mark (items.Request request) w =
 item_replied source sender mark (items.Acknowledgement ranges) w =
     ([], record w { replies = without_ranges sender ranges w.replies })
 
--- The separator before the next reply: a line feed after the first reply.
+-- The separator before the next reply: a line feed after a request. After an acknowledgement, the separator stays the
+-- same.
 abbrev pub mark_after : List ℕ → MessageItem → List ℕ
 mark_after mark (items.Request request) = 10 ∷ []
 mark_after mark (items.Acknowledgement ranges) = mark

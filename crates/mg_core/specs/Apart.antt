@@ -45,8 +45,8 @@ HearsNoneAt some w port =
     AllByRecursion (λ r. slot_port w.rooms.limits r.slot ≡ port → HearsNone some w r.number)
     w.rooms.terminations
 
--- If the termination with this port hears none of these terminations, the next tick sends the same
--- packets from the port in both worlds: the same bytes, or no packet in either world.
+-- If the termination with this port hears none of these terminations in the first world, the next tick sends the same
+-- packets from the port in both worlds. Either the bytes are the same, or there is no packet in either world.
 abbrev pub NextTickIsSame : List ℕ → ℕ → World → World → Type 0
 NextTickIsSame some port a b =
     HearsNoneAt some a.gateway port → next_packets port a ≡ next_packets port b

@@ -10,7 +10,7 @@ use Rattle.mg_core.specs.declared.event.Event.{Event}
 use Rattle.mg_core.specs.declared.event.Event.TheVariants.{Tick}
 use Rattle.mg_core.specs.Script.{events_of}
 
--- Whether ticks are counted after this line.
+-- Whether this is the line after which ticks are counted.
 abbrev pub is_mark : List ℕ → Bool
 is_mark line = bytes_eq line (codes "# counted ticks")
 

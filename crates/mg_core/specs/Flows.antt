@@ -1,5 +1,5 @@
--- The changes of an event to terminations and to who hears whom, as comment lines in a script's output. The format of
--- the lines is this gateway's own.
+-- The changes that an event makes to terminations and to who hears whom, as comment lines in a script's output. The
+-- format of the lines is this gateway's own.
 use Rattle.std.specs.Prelude.{◌≡◌, ℕ, ◌==◌, Bool, true, false, List, [], ◌++◌, length, filter}
 use Rattle.std.specs.Prelude.{find, flat_map, map, Option, Some, None, is_some, codes, decimal}
 use Rattle.std.specs.Prelude.{if◌then◌else◌}
@@ -88,8 +88,9 @@ hearing ticks x = change_line ticks x (codes " hears" ++ names_in_line x.talkers
 abbrev pub lines_of_old : ℕ → List Listener → Listener → List ℕ
 lines_of_old ticks after x = if is_some (listener_at after x.number) then [] else ended_line ticks x
 
--- The lines for a termination that exists. A new termination is reported completely. Of an earlier termination, only
--- these changes are reported: its context, its mode, and the talkers whose speech flows to it.
+-- The lines for a termination that exists. For a new termination, they report its place, its mode and, unless it hears
+-- nobody, the talkers whose speech flows to it. For an earlier termination, they report only a change of its context,
+-- its mode or these talkers.
 abbrev pub lines_of_new : ℕ → Option Listener → Listener → List ℕ
 lines_of_new ticks None x =
     made_line ticks x ++ (in_mode ticks x ++

@@ -21,7 +21,7 @@ use Rattle.mg_core.specs.Step.{Sent, Run}
 abbrev pub HasHistory : Config → List Event → List Sent → World → CoreState → Type 0
 HasHistory config events sent w state = Run (start_of config) events sent w × StandsFor state w
 
--- A list of events determines the resulting world and the datagrams sent.
+-- A configuration and a list of events determine the resulting world and the datagrams sent.
 abbrev pub EventsDetermineOutcome : Type 0
 EventsDetermineOutcome =
     (config : Config) (events : List Event) (s t : List Sent) (v w : World) (state : CoreState)
@@ -62,16 +62,17 @@ PacketsAreRecomputed state outbox =
     (config : Config) (events : List Event) (sent : List Sent) (w : World)
     → HasHistory config events sent w state → outbox ≡ packets_of w
 
--- ## After a rejected command
+-- ## After a refused command
 
 -- Whether an event is an RTP datagram or a tick.
 abbrev pub is_of_media : Event → Bool
 is_of_media (Control source bytes) = false
 is_of_media _ = true
 
--- A rejected command leaves the gateway unchanged, and adds a kept reply. Flows, totals and the packets of a tick
--- depend only on the gateway. So if two worlds have the same gateway, the same RTP datagrams and ticks lead to the same
--- packets in both, whatever replies they keep. Both worlds end with the same gateway.
+-- Except for a command on `*`, a refused command leaves the gateway unchanged. The reply to its request is kept. Flows,
+-- totals and the packets of a tick depend only on the gateway. So if two worlds have the same gateway, the same RTP
+-- datagrams and ticks lead to the same packets in both, whatever replies they keep. Both worlds end with the same
+-- gateway.
 abbrev pub GatewayDeterminesFuture : Type 0
 GatewayDeterminesFuture =
     (a b : World) (events : List Event) (s t : List Sent) (x y : World)

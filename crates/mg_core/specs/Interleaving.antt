@@ -1,4 +1,4 @@
--- The order of packets from different callers does not matter.
+-- Between two control datagrams or ticks, the order of RTP datagrams at different ports does not matter.
 use Rattle.std.specs.Prelude.{◌≡◌, ◌==◌, not, ℕ, Bool, false, List, Option, filter}
 use Rattle.mg_engine.specs.declared.config.Config.{Config}
 use Rattle.mg_core.specs.declared.counts.Counts.{Counts}

@@ -20,7 +20,7 @@ AgreementHasSameFlows =
     (a b : World) (talker listener : ℕ) → AgreeExceptReceived a b
     → flow a.gateway talker listener ≡ flow b.gateway talker listener
 
--- After two histories that differ only in RTP datagrams, the same speech flows.
+-- After a history, the same speech flows as after the same history without its RTP datagrams.
 abbrev pub HistoriesHaveSameFlows : Type 0
 HistoriesHaveSameFlows =
     (config : Config) (events : List Event) (s t : List Sent) (v w : World)
@@ -47,7 +47,7 @@ AgreementHasSameReports =
     → IsConsistent a.gateway.rooms → AgreeExceptReceived a b
     → ReportsOnlyChanges a events s x → ReportsOnlyChanges b (without_rtp events) t y → s ≡ t
 
--- The reports of two histories that differ only in RTP datagrams are equal.
+-- The reports of a history equal those of the same history without its RTP datagrams.
 abbrev pub HistoriesHaveSameReports : Type 0
 HistoriesHaveSameReports =
     (config : Config) (events : List Event) (s t : List ℕ) (v w : World) → IsStart config

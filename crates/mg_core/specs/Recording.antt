@@ -59,13 +59,13 @@ IsRecorded (Happened (Media port source bytes)) = (port < 65536) × IsDatagram s
 IsRecorded (Happened Tick) = Unit {0}
 IsRecorded (Noted text) = (length text ≤ 1000) × All (λ b. b ≢ 10) text
 
--- A recording is a script of its events.
+-- A recording of such entries is a script of its events.
 abbrev pub RecordingsAreRead : Type 0
 RecordingsAreRead =
     (entries : List Entry) → All IsRecorded entries
     → events_of (lines_of true (recording_of entries)) ≡ Some (events_in entries)
 
--- Wherever a recording is truncated, its complete lines are a script of its first events.
+-- Wherever a recording of such entries is truncated, its complete lines are a script of its first events.
 abbrev pub CutRecordingsAreRead : Type 0
 CutRecordingsAreRead =
     (entries : List Entry) (front rest : List ℕ) → All IsRecorded entries

@@ -27,8 +27,9 @@ KeptRepliesAreSent =
     → kept_text w.replies sender request.number ≡ Some text
     → request_replied source sender request w ≡ (text, w)
 
--- A retransmission gets the same answer as the request, and nothing is executed a second time. Its datagram may have
--- another form, and the sender's name in it may be in another case.
+-- Suppose a request is run, and its retransmission is handled next. The retransmission gets the same answer, and
+-- nothing is executed a second time. Its datagram may have another form, and the sender's name in it may be in another
+-- case.
 abbrev pub RetransmissionsAreAnsweredAlike : Type 0
 RetransmissionsAreAnsweredAlike =
     (source other sender same : List ℕ) (request again : Request) (w : World)
@@ -88,8 +89,8 @@ AllPreserveReply sender number w (event ∷ events) n =
     × ((sent : List Sent) (next : World) → Step w event sent next
     → AllPreserveReply sender number next events others)
 
--- A request gets the same answer, and is not run again, until an acknowledgement names its reply or 32 other replies
--- have been kept. The time that passes does not matter.
+-- A request whose reply is kept gets the same answer, and is not run again. This lasts until an acknowledgement names
+-- its reply or 32 other replies have been kept. The time that passes does not matter.
 abbrev pub RepliesPersist : Type 0
 RepliesPersist =
     (sender text : List ℕ) (number : ℕ) (w last : World) (events : List Event) (sent : List Sent)

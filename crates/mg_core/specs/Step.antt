@@ -26,7 +26,7 @@ reported Send text = Some text
 reported Silent text = None
 
 -- In the world `w`, the gateway sends these datagrams, in this order, in response to an event, which leads to the next
--- world. A control datagram is answered, an RTP datagram is handled, and a tick's packets are sent.
+-- world. A control datagram can be answered, an RTP datagram causes no datagram, and a tick causes its packets.
 abbrev pub Step : World → Event → List Sent → World → Type 0
 Step w (Control source bytes) sent next =
     (answer : Option (List ℕ)) × Answers bytes (with_control w) answer next

@@ -40,7 +40,7 @@ pub fn refusal_of(fault: ReadFault) -> Option<ErrorNumber>
     }
 }
 
-/// Writes the error for a message that is rejected as a whole.
+/// Writes the answer to a message that is rejected as a whole: a head and the error.
 #[tactic(auto, using(crate::proofs::AnswerLemmas::totals))]
 pub fn put_error(config: &Config, number: ErrorNumber, answer: &mut Bytes)
     requires room { HEAD_LIMIT + ERROR_LIMIT ≤ answer.old.room }
@@ -117,8 +117,8 @@ fn run_request(
     state.kept.keep(sender, request.number, text);
 }
 
-/// Writes the reply to a sender's request: the kept reply if the request is a retransmission, and otherwise the reply
-/// that results from running the request.
+/// Writes the reply to a sender's request: the kept reply if there is one, and otherwise the reply that results from
+/// running the request.
 fn put_request(
     state: &mut CoreState,
     source: &[u8],

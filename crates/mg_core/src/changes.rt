@@ -186,7 +186,7 @@ fn push_talkers(ticks: u64, new: &KeptListener, out: &mut Bytes)
     out.push(b"\n");
 }
 
-/// Writes everything about a new termination.
+/// Writes the place and the mode of a new termination and, unless it hears nobody, whom it hears.
 #[tactic(auto, using(crate::proofs::ChangeLemmas::steps))]
 fn push_new(ticks: u64, new: &KeptListener, out: &mut Bytes)
     requires room { NEW_LIMIT ≤ out.old.room }

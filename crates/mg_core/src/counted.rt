@@ -41,7 +41,7 @@ pub(crate) fn ticks_in(line: &[u8]) -> Option<u64>
     count_of(digits)
 }
 
-/// Returns whether ticks are counted after this line.
+/// Returns whether this is the line `# counted ticks`, after which ticks are counted.
 pub(crate) fn is_mark(line: &[u8]) -> bool
     ensures value { result ≡ is_mark line.now }
 {

@@ -21,7 +21,7 @@ const DATAGRAM_START: usize = 2 + PEER_LIMIT;
 /// feed.
 const LINE_ROOM: usize = 5 + PORT_LIMIT + DATAGRAM_START + DIGITS_ROOM;
 
-/// The script line for an event. It is built here and then written as a whole. In contracts, it appears as its text.
+/// The script line for a datagram. It is built here and then written as a whole. In contracts, it appears as its text.
 #[derive(Drop)]
 pub struct EventLine {
     line: Bytes,

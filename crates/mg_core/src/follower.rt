@@ -8,8 +8,8 @@ use crate::event::Event;
 use crate::machine::Core;
 use crate::stopped::Stopped;
 
-/// Follows a gateway while [`resume`](crate::resume) runs a script. Each line is reported to one of the methods, in
-/// order. After an error, nothing more is reported.
+/// Follows a gateway while [`resume`](crate::resume) or [`watch`](crate::watch) runs a script. Each line is reported to
+/// one of the methods, in order. After an error, nothing more is reported.
 pub trait Follower {
     /// Whether a method can return an error.
     ghost may_stop: { Bool } = { false };
@@ -39,7 +39,8 @@ pub trait Follower {
     /// whom.
     ///
     /// If there are ticks to report, this is called before the next line of another kind and at the end of the script.
-    /// It is also called before there would be 2^64 ticks.
+    /// It is called earlier if the count would otherwise reach 2^64. [`watch`](crate::watch) also calls it before more
+    /// of the script is read.
     fn ticks(&mut self, core: &Core, count: u64) -> Result<(), Stopped>
         ensures value { (start : Self) (config : Config) (notes : List Note) →
             follows start self.old config notes → HasRun config notes core.now.state →

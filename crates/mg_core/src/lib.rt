@@ -13,8 +13,8 @@
 //! [`run`] handles each line of a script in this way. A core's state represents worlds (`StandsFor` in
 //! `specs/aids/Stands.antt`), and each event is one `Step` in such a world (`specs/Step.antt`). The contracts prove
 //! that after any list of events, the core's flows, totals and packets equal those recomputed from scratch
-//! (`specs/Headline.antt`). A retransmitted request gets the kept reply, and is not run twice
-//! (`specs/Retransmissions.antt`).
+//! (`specs/Headline.antt`). While the reply to a request is kept, a retransmission of the request gets this reply, and
+//! is not run (`specs/Retransmissions.antt`).
 #![tactic(auto)]
 
 mod answer;

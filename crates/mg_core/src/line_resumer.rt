@@ -16,13 +16,13 @@ use crate::stopped::Stopped;
 use mg_engine::{Config, StartFault};
 use std::alloc::Global;
 
-/// Runs the lines of a script on a gateway, without output. Consecutive ticks are run in one step.
+/// Runs the lines of a script on a gateway, without output. Consecutive ticks are run together.
 #[derive(Drop)]
 pub struct LineResumer {
     pub core: Core,
     /// The number of ticks that have been counted but not run yet. They come after everything that has been run.
     pub ticks: u64,
-    /// Whether a line such as `ticks 12` is read as twelve ticks. It is after the line `# counted ticks`.
+    /// Whether a line such as `ticks 12` is read as twelve ticks. This is the case after the line `# counted ticks`.
     pub counts: bool,
 }
 

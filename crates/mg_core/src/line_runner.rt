@@ -23,8 +23,8 @@ use mg_reply::Bytes;
 use std::alloc::{AllocError, Global};
 use std::io::Write;
 
-/// The maximum length of an output line, in bytes: a first word, a peer, and an answer in which every byte may need an
-/// escape.
+/// The size of the output buffer, in bytes: enough for a first word, a peer, and an answer in which every byte may need
+/// an escape. The lines for all packets of a tick need less room.
 const OUTPUT_LIMIT: usize = LINE_START + 2 * ANSWER_LIMIT;
 
 /// Creates the store of terminations if changes are shown. The gateway has no terminations yet.
@@ -40,7 +40,7 @@ fn watched_for(alloc: Global, shown: Shown) -> Result<Option<Watched>, AllocErro
     }
 }
 
-/// Creates the buffers of a runner: one for the longest line and, if changes are shown, one for the terminations.
+/// Creates the buffers of a runner: one for output and, if changes are shown, one for the terminations.
 ///
 /// Fails only if an allocation fails.
 fn outputs(alloc: Global, shown: Shown) -> Result<(Bytes, Option<Watched>), AllocError>

@@ -129,7 +129,7 @@ impl Core {
         }
     }
 
-    /// Reads a control datagram for [`Core::run`]. Doesn't need a core, and is the only step that allocates.
+    /// Reads a control datagram for [`Core::run`]. Doesn't need a core. Allocates memory, unlike `run`.
     ///
     /// Fails only if memory runs out. Reading the same datagram later may succeed.
     pub fn read(alloc: Global, bytes: &[u8]) -> Result<Parsed, NoMemory>
@@ -358,21 +358,23 @@ impl Core {
         self.state.engine.stats(number)
     }
 
-    /// Returns whether the next tick conceals a missing frame of a termination.
+    /// Returns whether the next tick conceals a missing frame of a termination, or false if the termination doesn't
+    /// exist.
     pub fn conceals(&self, number: u32) -> bool
         ensures value { (w : World) → StandsFor self.now.state w → result ≡ conceals w.gateway number }
     {
         self.state.engine.conceals(number)
     }
 
-    /// Returns how many rows of 160 samples have been added, subtracted or written since the start, modulo 2^32.
+    /// Returns how many rows of 160 samples have been added or subtracted since the start, modulo 2^32. A mix counts as
+    /// at least one row.
     pub fn work(&self) -> u32
         ensures value { result ≡ self.now.state.engine.sums.work }
     {
         self.state.engine.work()
     }
 
-    /// Returns the counts of events: control datagrams, RTP datagrams by outcome, and ticks.
+    /// Returns the counts of control datagrams, RTP datagrams by outcome, ticks, and concealed frames.
     ///
     /// `lines`, `sent` and `failed` are 0, because the code that runs the core counts them.
     pub fn counts(&self) -> Counts

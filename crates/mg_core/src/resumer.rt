@@ -64,7 +64,7 @@ fn is_tick(partial: &Bytes, part: &[u8]) -> bool
 #[derive(Drop)]
 pub struct Resumer {
     pub runner: LineResumer,
-    /// The number of lines that were run.
+    /// The number of lines so far, not counting a last line without a line feed.
     pub lines: u64,
     pub partial: Bytes,
     ghost partial_size: { partial.room + length partial.text ≡ PARTIAL_LIMIT },
@@ -89,7 +89,7 @@ impl Resumer {
         })
     }
 
-    /// Appends to the partial line.
+    /// Appends to the partial line, unless that would make it too long.
     fn keep(&mut self, part: &[u8]) -> Result<(), LineFault>
         requires few { self.old.lines + 1 < 2 ^ 64 }
         ensures kept { OnOk result (self.new.partial.text ≡ self.old.partial.text ++ part.now) }

@@ -13,7 +13,7 @@ use std::io::Read;
 
 /// Runs a whole script on a new gateway, without sending answers or packets, and returns the gateway.
 ///
-/// Consecutive ticks are run in one step, so hours of ticks cost little more than reading their lines. RTP datagrams in
+/// Consecutive ticks are run together, so hours of ticks cost little more than reading their lines. RTP datagrams in
 /// the script are handled too.
 ///
 /// Fails with `Script` at the first bad line, and with `Write` if the follower stops. Also fails with `Read` after

@@ -18,8 +18,7 @@ use std::io::{Read, Write};
 /// each change.
 ///
 /// The lines for an event are written before any more input is read. `Ok` means that all of the input is a script, and
-/// that exactly the datagrams sent in response to its events were written. The result counts the script's lines, events
-/// and datagrams.
+/// that exactly the output of its events was written. The result counts the script's lines, events and datagrams.
 ///
 /// If the run failed, all lines before the failure were run, and their output was written completely before any more
 /// input was read. The fault says why the run stopped:

@@ -63,10 +63,10 @@ pub fn outcomes_are_unique()
     mg_engine::theorems::one_arrival(b"");
 }
 
-/// A rejected command changes no flow, total or later packet.
+/// A refused command changes no flow, total or later packet.
 ///
-/// A rejected command leaves the gateway unchanged. Flows, totals and packets depend only on the gateway, not on kept
-/// replies.
+/// Except for a command on `*`, a refused command leaves the gateway unchanged. Flows, totals and packets depend only
+/// on the gateway, not on kept replies.
 pub fn refused_commands_change_no_packet()
     ensures theorem { GatewayDeterminesFuture }
 {
@@ -102,9 +102,9 @@ pub fn replies_persist()
 
 /// The terminations and contexts are consistent after any sequence of events.
 ///
-/// Terminations and contexts are within the limits. No two have the same number, slot or room, and no two members of a
-/// context have the same seat. Members and records agree. Terminations are in order of their numbers, so a tick sends
-/// its packets in that order.
+/// Terminations and contexts are within the limits. No two terminations have the same number or slot, and no two
+/// contexts have the same number or room. No two members of a context have the same seat. Members and records agree.
+/// Terminations are in order of their numbers, so a tick sends its packets in that order.
 pub fn worlds_are_consistent()
     ensures theorem { WorldsAreConsistent }
 {
@@ -112,11 +112,11 @@ pub fn worlds_are_consistent()
     mg_commands::theorems::requests_are_consistent();
 }
 
-/// The order of packets from different callers does not matter.
+/// Between two control datagrams or ticks, the order of RTP datagrams at different ports does not matter.
 ///
-/// Suppose two lists of events contain the same control datagrams and ticks, and between these, each port receives the
-/// same RTP datagrams in the same order. Then the gateway sends the same datagrams for both lists, and ends in the same
-/// world.
+/// Suppose two lists of events contain the same control datagrams and ticks, in the same order. Suppose also that
+/// between these, each port receives the same RTP datagrams, in the same order. Then the gateway sends the same
+/// datagrams for both lists, and ends in the same world.
 pub fn port_order_is_irrelevant()
     ensures events { PortOrderIsIrrelevant }
     ensures histories { PortOrderInHistories }
@@ -131,9 +131,9 @@ pub fn port_order_is_irrelevant()
 /// In each tick, a listener's packet does not depend on what arrives from terminations that the listener does not hear in
 /// that tick.
 ///
-/// Suppose two gateways receive the same events, except for RTP datagrams at the ports of some terminations. In the
-/// next tick, both gateways send the same bytes to every listener that hears none of those terminations in that tick.
-/// What the listener heard earlier makes no difference.
+/// Suppose two gateways start with the same configuration and receive the same events, except for RTP datagrams at the
+/// ports of some terminations. In the next tick, both gateways send the same bytes to every listener that hears none of
+/// those terminations in that tick. What the listener heard earlier makes no difference.
 pub fn unheard_changes_nothing()
     ensures lists { UnheardChangesNothing }
     ensures histories { UnheardInHistories }
@@ -147,10 +147,10 @@ pub fn unheard_changes_nothing()
 
 /// RTP datagrams change only speech.
 ///
-/// Suppose two gateways receive the same control datagrams and ticks, but only one of them receives RTP datagrams. Then
-/// both gateways have the same terminations, contexts and topology, and keep replies to the same requests. They can
-/// differ only in play lists (but not in their depths), current frames, the texts of kept replies, and the counts of
-/// RTP datagrams, received packets and concealed frames.
+/// Suppose two gateways start with the same configuration and receive the same control datagrams and ticks, but only
+/// one of them receives RTP datagrams. Then both gateways have the same terminations, contexts and topology, and keep
+/// replies to the same requests. They can differ only in play lists (but not in their depths), current frames, the
+/// texts of kept replies, and the counts of RTP datagrams, received packets and concealed frames.
 pub fn rtp_changes_speech_only()
     ensures worlds { RtpChangesSpeechOnly }
     ensures histories { RtpChangesSpeechOnlyInHistories }
@@ -162,11 +162,12 @@ pub fn rtp_changes_speech_only()
     mg_commands::theorems::requests_are_consistent();
 }
 
-/// RTP datagrams don't change any flow. So control datagrams and ticks alone determine who could hear whom, and when.
+/// RTP datagrams don't change any flow. So a configuration, control datagrams and ticks alone determine who could hear
+/// whom, and when.
 ///
-/// Suppose two gateways receive the same control datagrams and ticks, but only one of them receives RTP datagrams. Then
-/// the same flows are open in both gateways, and both report the same changes. So a journal can leave out RTP
-/// datagrams.
+/// Suppose two gateways start with the same configuration and receive the same control datagrams and ticks, but only
+/// one of them receives RTP datagrams. Then the same flows are open in both gateways, and both report the same changes.
+/// So a journal can leave out RTP datagrams.
 pub fn rtp_changes_no_flow()
     ensures flows { AgreementHasSameFlows }
     ensures flows_in_histories { HistoriesHaveSameFlows }
@@ -181,14 +182,15 @@ pub fn rtp_changes_no_flow()
     mg_commands::theorems::requests_are_consistent();
 }
 
-/// The lines that report an event's changes determine the terminations, contexts, modes and flows after the event. If
-/// nothing changed, there are no such lines.
+/// The state before an event and the lines that report its changes determine the terminations, contexts, modes and
+/// flows after it. If nothing changed, there are no such lines.
 pub fn changes_are_reported()
     ensures complete { ReportDeterminesOutcome }
     ensures exact { OnlyChangesAreReported }
 {}
 
-/// The counts equal the numbers of control datagrams, RTP datagrams and ticks, and each RTP datagram has one outcome.
+/// The counts equal the numbers of control datagrams, RTP datagrams and ticks. The counts of outcomes add up to the
+/// number of RTP datagrams.
 pub fn events_are_counted()
     ensures theorem { EventsAreCounted }
 {}
@@ -218,9 +220,9 @@ pub fn notes_have_events()
 ///
 /// The clauses `headline` and `packets` of a [`Core`](crate::Core) compare what it returns and sends with what is
 /// recomputed from the resulting world. After any sequence of events, the two are equal. This theorem states the rest.
-/// The events determine that world and the content of each packet. Packets are sent in order of termination number. A
-/// rejected command changes nothing, not even a later packet. No termination hears itself, and an isolated participant
-/// is not heard.
+/// The configuration and the events determine that world and the content of each packet. Packets are sent in order of
+/// termination number. If a command is refused for a termination, the gateway stays the same, and so do later packets.
+/// No termination hears itself, and isolated participants do not hear each other.
 pub fn headline()
     ensures world { EventsDetermineOutcome }
     ensures packets { PayloadsAreMixes }

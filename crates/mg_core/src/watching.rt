@@ -12,8 +12,8 @@ use std::io::Read;
 /// Runs a script on a new gateway, as [`resume`](crate::resume) does, until the script ends or the follower is done.
 /// Returns the gateway.
 ///
-/// Before more of the script is read, every line and tick that has arrived is reported to the follower, and the run ends
-/// if the follower is then done.
+/// Before more of the script is read, each complete line and each tick that has arrived is reported to the follower.
+/// The run ends if the follower is then done.
 pub fn watch<R: Read, F: Watcher>(
     alloc: Global,
     config: Config,

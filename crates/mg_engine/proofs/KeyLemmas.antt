@@ -15,13 +15,14 @@ module _ {A : Type 0} (key : A → ℕ) where
       find (at n) (xs ++ x ∷ []) ≡ Some x
   found_push n xs x e none = find-push_none (at n) xs x none ∙ rw e refl
 
-  -- After f changes the first item with the key, a search for the key finds the changed item.
+  -- After f changes the first item with the key, but not its key, a search for the key finds the changed item.
   pub found_changed : (f : A → A) (n : ℕ) (xs : List A) → ((x : A) → key (f x) ≡ key x) →
       find (at n) (change key n (λ y. Some (f y)) xs) ≡ option_map f (find (at n) xs)
   found_changed f n [] keeps = refl
   found_changed f n (x ∷ xs) keeps = grind (arith, nat_tests, keeps x, found_changed f n xs keeps)
 
-  -- After the first item with the key is replaced, a search for the key finds the replacement.
+  -- After the first item with the key is replaced by another item with this key, a search for the key finds the
+  -- replacement.
   pub found_replaced : (r : A) (n : ℕ) (xs : List A) (y : A) → key r ≡ n → find (at n) xs ≡ Some y →
       find (at n) (change key n (λ _. Some r) xs) ≡ Some r
   found_replaced r n [] y same found = absurd (cc found)

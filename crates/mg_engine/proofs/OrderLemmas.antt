@@ -153,7 +153,7 @@ pub done_is : (f : Registry → Record → Gateway) (o : Result (Registry × Rec
 done_is f (Ok p) next r e = grind (arith, nat_tests, p.1, p.0)
 done_is f (Err x) next r e = absurd (cc e)
 
--- If a property holds for the gateway of each successful outcome, it holds for the gateway after the command.
+-- If a property holds for the gateway of each successful outcome, it holds for the gateway after a successful command.
 pub done_gives : (P : Gateway → Type 0) (f : Registry → Record → Gateway)
     (o : Result (Registry × Record) ErrorNumber) (next : Gateway) (r : Record) → done_with f o ≡ Ok (next, r) →
     ((z : Registry) → o ≡ Ok (z, r) → P (f z r)) → P next

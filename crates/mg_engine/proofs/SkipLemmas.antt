@@ -1,4 +1,4 @@
--- Many ticks in one step have the same effect as single ticks, if all play lists are idle.
+-- Many ticks in one step have the same effect as single ticks, if all play lists are idle and all frames silent.
 use Rattle.mg_engine.proofs.Common.{◌≡◌, ℕ, zero, suc, ◌+◌, ◌*◌, ◌%◌, ◌^◌, ◌<◌, Bool, true, false, cond, List, ℤ, [], ◌∷◌, map, get_or, Option, Some, None, refl, sym, ap, subst, ◌∙◌, arith, count_by, option_map, sum_by-cons, is_concealed, PlayList, Record, record_at, silence, Config, Gateway, TerminationMedia, media_of, HasPassed, IsIdleEngine, EngineState, StandsFor, IsMediaOf, media_at, played, sent, sends_at, after_ticks, concealed_in_ticks, IsTrue, Registry, counted_up, SlotMedia, slot_sends, option_map_or, map-map, sound_of, ticked, ticked_in, is_idle, frame_or_silence, numbers_of, frame_played, slot_ended, slot_played, slot_ticked, slot_passed, after_tick, conceals, concealed_in_tick, nat_tests, IsSound, eqb, find, map_agree}
 use Rattle.std.specs.Fn.{iterate}
 use Rattle.mg_playout.specs.declared.phase.Phase.{Phase}

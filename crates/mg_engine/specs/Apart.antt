@@ -46,7 +46,8 @@ pub record HearsNone (some : List ℕ) (w : Gateway) (listener : ℕ) : Type 0 w
   pub others : (talker : ℕ) → has some talker ≡ true → flow w talker listener ≡ false
   pub own : (has some listener && hears_itself w listener) ≡ false
 
--- A tick of either gateway sends the same packet, byte for byte, to a listener that hears none of these terminations.
+-- If two gateways agree outside some terminations, a tick of either sends the same packet, byte for byte, to a listener
+-- that hears none of these terminations.
 abbrev pub SamePackets : Type 0
 SamePackets =
     (some : List ℕ) (a b : Gateway) (r : Record)

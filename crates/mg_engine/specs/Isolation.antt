@@ -35,7 +35,7 @@ OwnSpeechChangesNoPacket =
     (w : Gateway) (frame : List ℤ) (r : Record) → hears_itself w r.number ≡ false
     → packet_of (with_frame w r.number frame) r ≡ packet_of w r
 
--- ## An isolated participant is not heard
+-- ## Isolated participants do not hear each other
 
 -- Whether an edit keeps two terminations isolated: neither of them enters a context, and no triple mentions the two.
 abbrev pub leaves_isolated : ℕ → ℕ → ContextEdit → Bool
@@ -77,7 +77,7 @@ PacketsDependOnHeard =
     → packet_of a r ≡ packet_of b r
 
 -- If a talker's speech does not flow to a listener, the listener is sent the same packet, byte for byte, whatever the
--- talker says. In Loopback a termination is its own listener.
+-- talker says. The exception is a termination in Loopback, which is sent its own speech.
 abbrev pub UnheardChangesNoPacket : Type 0
 UnheardChangesNoPacket =
     (w : Gateway) (talker : ℕ) (frame : List ℤ) (r : Record) → flow w talker r.number ≡ false

@@ -71,7 +71,7 @@ header_of w to s = record {
   ssrc = (w.config.ssrc + s.number) % 2 ^ 32;
 }
 
--- The packet of a termination to its peer, which contains the encoding of the termination's mix.
+-- The packet of a termination to its peer. It contains the encoding of the termination's mix.
 abbrev pub packet : Gateway → Record → Chosen → TerminationMedia → Datagram
 packet w r to s = record {
   from = slot_port w.rooms.limits r.slot;

@@ -1,5 +1,5 @@
--- The cost of a tick and of an edit: the number of rows of 160 samples that are added, subtracted or written (not from
--- a standard).
+-- The cost of a tick and of an edit: the number of rows of 160 samples that are added or subtracted (not from a
+-- standard). A mix counts as at least one row.
 use Rattle.std.specs.Prelude.{◌≡◌, ℕ, ◌+◌, ◌*◌, ◌%◌, ◌^◌, ◌≤◌, length, is_some, sum_by, count_by}
 use Rattle.std.specs.Prelude.{if◌then◌else◌}
 use Rattle.mg_rooms.specs.declared.record.Record.{Record}

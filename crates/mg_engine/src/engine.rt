@@ -221,7 +221,7 @@ impl Engine {
         &self.sums
     }
 
-    /// Applies an edit, or rejects it and changes nothing.
+    /// Applies an edit, or refuses it and changes nothing.
     pub fn edit(&mut self, edit: &Edit) -> Result<Done, ErrorNumber>
         ensures outcome { (w : Gateway) → StandsFor self.old w → IsOutcome self.new result (outcome w edit.now) }
         ensures refused { OnErr result (self.new ≡ self.old) }
@@ -405,7 +405,7 @@ impl Engine {
         }
     }
 
-    /// Places the frame of a packet for a termination, or returns why the packet is dropped.
+    /// Places the frame of a packet for a termination, unless the packet is dropped. Returns the outcome.
     fn place(
         &mut self,
         termination: &Record,
@@ -526,7 +526,8 @@ impl Engine {
         Some(*self.sums.total(Room::new(room), i))
     }
 
-    /// Returns how many rows of samples have been added, subtracted or written since the start, modulo 2^32.
+    /// Returns how many rows of samples have been added or subtracted since the start, modulo 2^32. A mix counts as at
+    /// least one row.
     pub fn work(&self) -> u32
         ensures value { result ≡ self.now.sums.work }
     {
@@ -552,7 +553,8 @@ impl Engine {
         Some(media.stats())
     }
 
-    /// Returns whether the next tick conceals a missing frame of a termination.
+    /// Returns whether the next tick conceals a missing frame of a termination, or false if the termination doesn't
+    /// exist.
     pub fn conceals(&self, number: u32) -> bool
         ensures value { (w : Gateway) → StandsFor self.now w → result ≡ conceals w number }
     {
@@ -582,7 +584,7 @@ impl Engine {
     /// `u64::MAX`.
     ///
     /// The gateway is then in the same state as after `count` calls of [`Engine::tick`]. Ticks are run one by one until
-    /// all play lists are idle; the rest take one step. No payloads are mixed.
+    /// all play lists are idle and all frames silent; the rest take one step. No payloads are mixed.
     pub fn skip(&mut self, count: u64) -> u64
         ensures concealed { (w : Gateway) → StandsFor self.old w →
             result ≡ min (concealed_in_ticks count w) (2 ^ 64 - 1) }
@@ -608,7 +610,7 @@ impl Engine {
         are_idle(self.held.as_slice(), self.media.as_slice(), &self.sums)
     }
 
-    /// Advances by several ticks in one step. All play lists must be idle.
+    /// Advances by several ticks in one step. All play lists must be idle, and all frames silent.
     fn pass(&mut self, count: u64)
         requires idle { IsIdleEngine self.old }
         requires some { 0 < count }

@@ -1,7 +1,7 @@
 //! The state of a conference gateway, changed by edits, media and ticks.
 //!
 //! [`Engine::new`] allocates all memory. Commands arrive as calls, or as [`Edit`]s. Each command is either applied, or
-//! rejected with an [`ErrorNumber`](mg_rooms::ErrorNumber), in which case nothing changes:
+//! refused with an [`ErrorNumber`](mg_rooms::ErrorNumber), in which case nothing changes:
 //!
 //! ```rust
 //! let mut engine = Engine::new(alloc, Config::default())?;
@@ -9,19 +9,20 @@
 //! assert_eq!(rt; engine.rooms().members(done.context), [done.number].as_slice());
 //! ```
 //!
-//! The cost of a tick grows with the number of terminations and packets, not with the number of pairs that hear each
-//! other. The engine keeps the frame of each termination and a total for each context, in [`Sums`]. It counts each row
-//! of 160 samples that is added to a total, subtracted from one, or written ([`Engine::work`]).
+//! The cost of a tick grows with the number of terminations, of packets, and of pairs that the topology silences. It
+//! doesn't grow with the number of pairs that hear each other. The engine keeps the frame of each termination and a
+//! total for each context, in [`Sums`]. It counts each row of 160 samples that is added to a total or subtracted from
+//! one ([`Engine::work`]). A mix counts as at least one row.
 //!
-//! A tick costs at most two rows for each termination that talks: its old frame is subtracted from the total, and its
-//! new frame is added. A packet whose payload is not shared costs one row (the total without the listener itself), plus
-//! one for each talker that the topology silences for the listener. In Loopback a termination is sent its own frame,
-//! which doesn't cost any rows. Two listeners in a context share a payload if they hear the same talkers and use the
-//! same law. The payload must be among the context's newest eight. `specs/Work.antt` has the proved bound for a tick.
-//! An edit costs at most four rows, and an RTP datagram costs none.
+//! A tick costs at most two rows for each termination. If a termination talks, its old frame is subtracted from the
+//! total, and its new frame is added. A packet whose payload is not shared costs one row (the total without the
+//! listener itself), plus one for each talker that the topology silences for the listener. In Loopback a termination is
+//! sent its own frame, which doesn't cost any rows. Two listeners in a context share a payload if they hear the same
+//! talkers and use the same law. The payload must be among the context's newest eight. `specs/Work.antt` has the proved
+//! bound for a tick. An edit costs at most four rows, and an RTP datagram costs none.
 //!
-//! [`Engine::skip`] runs many ticks without packets. Once all play lists are idle, the remaining ticks take one step.
-//! The cost of that step grows only with the number of terminations.
+//! [`Engine::skip`] runs many ticks without packets. Once all play lists are idle and all frames silent, the remaining
+//! ticks take one step. The cost of that step grows only with the number of terminations.
 //!
 //! The engine keeps no history, so one state may represent several gateways. Its contracts hold for every `Gateway`
 //! (`specs/Gateway.antt`) that the state represents, before and after a call (`StandsFor` in `specs/aids/Stands.antt`).

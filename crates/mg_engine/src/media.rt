@@ -76,7 +76,7 @@ impl HeldMedia {
         }
     }
 
-    /// Places the frame of a received packet.
+    /// Places the frame of a received packet, and counts the packet.
     pub fn place(&mut self, header: Header, frame: Frame) -> Placed
         ensures value { slot_placed self.old header frame ≡ (self.new, result) }
     {
@@ -85,7 +85,7 @@ impl HeldMedia {
         self.play.place(header.ssrc, header.sequence, frame)
     }
 
-    /// Advances by 20 ms. Returns the frame of this tick, which is silent if the play list has none.
+    /// Advances by 20 ms. Returns what the play list plays in this tick.
     pub fn play(&mut self) -> Played
         ensures value { self.new ≡ slot_played self.old }
         ensures frame { frame_or_silence (sound_of result) ≡ frame_played self.old }
@@ -141,7 +141,7 @@ impl HeldMedia {
         self.play.is_idle()
     }
 
-    /// Counts several ticks, given whether a packet was sent in each. The play list is unchanged.
+    /// Counts several ticks, given whether each of them sent a packet. The play list is unchanged.
     pub fn pass(&mut self, count: u64, is_sent: bool)
         ensures value { self.new ≡ slot_passed is_sent count self.old }
     {

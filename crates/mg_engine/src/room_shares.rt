@@ -11,7 +11,7 @@ use std::marker::Model;
 /// How many of a room's newest packets are searched.
 const NEWEST: usize = 8;
 
-/// The packets of one room whose payloads other members can share: at most one for each member.
+/// The packets of one room whose payloads other members can share: at most as many as a context can have members.
 #[derive(Drop)]
 pub struct RoomShares {
     shares: ArrayVec<Share, MEMBERS>,
@@ -47,8 +47,8 @@ impl RoomShares {
     /// found.
     ///
     /// If everybody in a room talks, each member usually hears a different sum. The room then has a packet for each
-    /// member, and searching all of them for every member would be quadratic. Members that only listen find their sum
-    /// among the newest packets.
+    /// member, and searching all of them for every member would be quadratic. Members that only listen usually find
+    /// their sum among the newest packets.
     pub fn find(&self, talkers: Mask, law: Law) -> Option<u8>
         ensures found { IfSome result
             (λ packet. Contains self.now (record { talkers = talkers; law = law; packet = packet })) }

@@ -1,4 +1,4 @@
-//! Runs many ticks in one step while all play lists are idle.
+//! Runs many ticks in one step if all play lists are idle and all frames silent.
 
 ghost use Rattle.std.specs.Prelude.{◌≡◌, ◌<◌, ◌≤◌, IsTrue, EachIndex, length, slice_index_or, slice_set};
 ghost use Rattle.mg_words.specs.Limits.{termination_limit};

@@ -41,7 +41,7 @@ pub fn none_hears_itself()
     ensures packets { OwnSpeechChangesNoPacket }
 {}
 
-/// An isolated participant is not heard.
+/// Two terminations that are isolated from each other do not hear each other.
 ///
 /// After an Isolate on two terminations, no speech flows between them until one of them enters a context or another
 /// triple mentions the pair. The packets to either of them are the same, whatever the other says.
@@ -108,8 +108,8 @@ pub fn other_contexts_are_unaffected()
     ensures media { DatagramsDoNotAffectOthers }
 {}
 
-/// If two gateways agree except on some terminations, they still agree on everything else after the same edit, datagram
-/// or tick.
+/// If two gateways differ only in what some terminations received, this is still so after the same edit, datagram or
+/// tick.
 ///
 /// This holds even if only one gateway receives an RTP datagram at the port of one of those terminations. The counters
 /// are equal in both gateways, except for received packets.

@@ -39,8 +39,8 @@ edits_in room (Apply r triple ∷ es) =
 abbrev pub is_held : List FlowEdit → Place → Bool
 is_held es place = topology.is_held (edits_in place.room es) place.seat
 
--- The last setting of the member at the place, and `false` if it has left or no member has entered. The function `side`
--- selects whether the member talks or whether it listens.
+-- The last setting of the member at the place, or `false` if the member has left or none has entered. The function
+-- `side` selects whether the member talks or whether it listens.
 abbrev pub last_setting : (Bool → Bool → Bool) → List FlowEdit → Place → Bool
 last_setting side [] place = false
 last_setting side (Enter p talks listens ∷ es) place =

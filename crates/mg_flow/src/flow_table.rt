@@ -98,7 +98,7 @@ impl FlowTable {
         }
     }
 
-    /// Returns the seats in the room whose speech flows to the listener at the place.
+    /// Returns the seats of the room's members whose speech flows to the listener at the place.
     pub fn open(&self, place: Place) -> &Mask
         requires { IsTrue (holds self.now place) }
         ensures kept { (seat : ℕ) →

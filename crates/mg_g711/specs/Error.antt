@@ -15,8 +15,8 @@ abbrev pub half_step_of : Law → ℕ → ℕ
 half_step_of Mu k = 2 ^ (k / 16 + 2)
 half_step_of A k = 2 ^ (max (k / 16) 1 + 2)
 
--- The end of the last level: the virtual decision value of G.711, scaled in the same way. It is 8159 for mu-law and
--- 4096 for A-law.
+-- The end of the last level: the virtual decision value of G.711 (8159 for mu-law, 4096 for A-law), scaled in the same
+-- way.
 abbrev pub end_of : Law → ℕ
 end_of Mu = 32636
 end_of A = 32768

@@ -16,7 +16,7 @@ use Rattle.mg_kept.proofs.KeepLemmas.{kept_is_last, oldest_is_dropped}
 -- ## Searches in any list, with any test
 
 module _ (p : KeptReply → Bool) where
-  -- The replies after the first that passes the test.
+  -- The replies after the first reply that passes the test, or none if no reply passes it.
   after : List KeptReply → List KeptReply
   after [] = []
   after (x ∷ xs) = cond (p x) xs (after xs)

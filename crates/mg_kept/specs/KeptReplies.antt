@@ -30,7 +30,7 @@ abbrev pub kept_text : List KeptReply → List ℕ → ℕ → Option (List ℕ)
 kept_text replies sender number =
     option_map (λ reply. reply.text) (find (is_reply_to sender number) replies)
 
--- The replies that were kept after the reply that answers the request.
+-- The replies that were kept after the reply that answers the request, or none if no kept reply answers it.
 abbrev pub newer_than : List KeptReply → List ℕ → ℕ → List KeptReply
 newer_than [] sender number = []
 newer_than (reply ∷ replies) sender number =

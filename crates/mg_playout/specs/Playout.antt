@@ -16,7 +16,7 @@ use Rattle.mg_playout.specs.declared.played.Played.{Played}
 use Rattle.mg_playout.specs.declared.played.Played.TheVariants.{Silence}
 use Rattle.mg_playout.specs.declared.source.Source.{Source}
 
--- A play list: its phase, its source, the last frame played, and the places of the waiting frames.
+-- A play list: its phase, its source, the frame that was due in the last tick, and the places of the waiting frames.
 -- Place i belongs to the source's next sequence number plus i, modulo 65536.
 pub record PlayList : Type 0 where
   pub phase : Phase

@@ -13,7 +13,7 @@ use mg_words::{FIRST_DEPTH, MAX_DEPTH, MIN_DEPTH};
 use std::alloc::{AllocError, Global};
 use std::marker::Model;
 
-/// The last frame played, and the waiting frames by place. Place 0 is played next.
+/// The frame that was due in the last tick, if it had arrived, and the waiting frames by place. Place 0 is played next.
 ///
 /// The ring's first item is the last frame, followed by an item for each place. So a tick doesn't move any frame in
 /// memory: the frame at place 0 becomes the last frame. In contracts, the frames appear as the record `KeptFrames` from

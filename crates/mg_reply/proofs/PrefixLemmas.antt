@@ -276,7 +276,7 @@ items_passed (Command word term outcome ∷ xs) h =
     actions_passed [] [] (Command word term outcome ∷ xs) (λ d t. refl) refl h
 items_passed (Action id ∷ xs) h = actions_passed [] [] (Action id ∷ xs) (λ d t. refl) refl h
 
--- A reply ends at the brace that closes its first opening brace.
+-- A reply whose names are valid ends at the brace that closes its first opening brace.
 pub after_reply : (n : ℕ) (xs : List Item) (rest : List ℕ) → list_all has_terms xs ≡ true →
     after 0 (reply_text n xs ++ rest) ≡ Some rest
 after_reply n xs rest h =

@@ -19,7 +19,7 @@ abbrev pub outcome_text : Outcome → List ℕ
 outcome_text (Failed e) = grouped (error_text e ∷ [])
 outcome_text (Done parts) = grouped (reported_parts parts)
 
--- The text of an item: a triple, a command or an error.
+-- The text of an item: a triple, a command or an error. The end of an action has no text.
 abbrev pub item_text : Item → List ℕ
 item_text (Triple a b association) =
     a ++ (codes "," ++ (b ++ (codes "," ++ association_text association)))

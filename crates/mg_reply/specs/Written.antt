@@ -19,7 +19,7 @@ abbrev pub action_text : ContextId → List Item → List ℕ
 action_text id items = codes "Context=" ++ (context_text id ++ grouped (entries_of items))
 
 -- The actions, with a mark before each. An action consists of the items since the previous action. The list `pending`
--- holds the items of the next action so far.
+-- holds the items of the next action so far. Items after the last action are not written.
 unfoldable pub actions_text : List ℕ → List Item → List Item → List ℕ
 actions_text mark pending [] = []
 actions_text mark pending (Action id ∷ xs) =

@@ -71,7 +71,7 @@ fn put_command(draft: &mut Draft, word: CommandWord, term: &Term, outcome: Outco
     put_outcome(draft, outcome);
 }
 
-/// Appends an item.
+/// Appends an item, or nothing for the end of an action.
 fn put_item(draft: &mut Draft, item: &Item)
     ensures value { draft.new ≡ drafted draft.old (item_text item.now) }
 {
@@ -148,7 +148,7 @@ fn put_all(
     is_next_first
 }
 
-/// Appends the topology as the first entry. Returns whether no entry has been written yet.
+/// Appends the topology as the first entry, if there are triples. Returns whether no entry has been written yet.
 fn put_topology(draft: &mut Draft, items: &[Item]) -> bool
     ensures value { draft.new ≡ drafted draft.old
         (listed (codes "{") (topology_entry (texts_of EntryKind.Triples items.now))) }

@@ -49,7 +49,7 @@ impl Draft {
         }
     }
 
-    /// Appends to the reply, unless that would make it too long.
+    /// Appends a part, unless the reply is already too long or would become too long.
     #[tactic(auto, unfolding(crate::specs::aids::Draft::drafted))]
     pub fn put(&mut self, part: &[u8])
         ensures value { self.new ≡ drafted self.old part.now }
@@ -62,7 +62,7 @@ impl Draft {
         }
     }
 
-    /// Appends a name to the reply, unless that would make it too long.
+    /// Appends a name, unless the reply is already too long or would become too long.
     #[tactic(auto, unfolding(crate::specs::aids::Draft::drafted))]
     pub fn put_name(&mut self, name: &RtpName)
         ensures value { self.new ≡ drafted self.old name.now }

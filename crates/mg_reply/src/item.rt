@@ -12,9 +12,9 @@ use mg_words::{Association, CommandWord, ContextId, ErrorNumber, Term};
 pub enum Item {
     /// Two terminations of the action's context, and who hears whom.
     Triple(RtpName, RtpName, Association),
-    /// A command that was tried, the name of its termination, and its outcome.
+    /// A command, the name of its termination, and its outcome.
     Command(CommandWord, Term, Outcome),
-    /// The error for a rejected action or, if this is the only item, for the whole request.
+    /// An error of an action or, if this is the only item, of the whole request.
     Fault(ErrorNumber),
     /// The end of an action in this context. The action consists of the items since the end of the previous action.
     /// They are written in the order topology, commands, errors, regardless of the order in which they were added.

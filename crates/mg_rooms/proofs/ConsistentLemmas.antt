@@ -97,7 +97,7 @@ entered_ok w place n None h from last (some, few) = record {
     both None is = absurd (cc)
     both (Some x) is = refl
 
--- In the new registry, n is not a member of the context c.
+-- In the new registry, n has been removed from the members of the context c.
 pub record HasLeft (w after : Registry) (c n : ℕ) : Type 0 where
   pub contexts : AreContexts w.limits after.next_context after.contexts
   pub members : (d : ℕ) → members_at after d ≡ cond (c == d) (without n (members_at w d)) (members_at w d)
@@ -281,7 +281,7 @@ add_sound w after target d h a =
     (rw has.slot unheld) (rw (has.context, has.seat) unseated))
     (record { same = agree.same; as_many = agree.as_many }) (omega arith) (omega arith))
 
--- If a termination moves to a free seat, no two terminations have the same seat afterwards.
+-- If no two terminations have the same seat in a context, this still holds after one moves to a free seat.
 moved_seat : (rs : List Record) (place : EntryPlace) (old r : Record) →
     ((c seat : ℕ) → count_by (λ x. (x.context == c) && (x.seat == seat)) rs ≤ 1) →
     count_by (λ x. (x.context == place.context) && (x.seat == place.seat)) rs ≡ 0 →

@@ -147,7 +147,7 @@ contexts-changed limits next c f xs keeps is h = record {
 abbrev pub members_in : List Context → ℕ → List ℕ
 members_in xs c = members_of (find (λ x. x.number == c) xs)
 
--- After a context is created, its first member is its only member.
+-- After a context is created, its first member is its only member, and other contexts keep their members.
 pub members-made : (limits : Limits) (next : ℕ) (xs : List Context) (x : Context) (n : ℕ) →
     AreContexts limits next xs → x.number ≡ next → x.members ≡ n ∷ [] → (d : ℕ) →
     members_in (xs ++ (x ∷ [])) d ≡ cond (x.number == d) (members_in xs d ++ (n ∷ [])) (members_in xs d)

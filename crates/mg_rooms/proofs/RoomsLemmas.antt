@@ -2,7 +2,7 @@
 use Rattle.mg_rooms.proofs.Common.{◌≡◌, Result, Ok, Err, OnErr, Record, ErrorNumber, Registry}
 use Rattle.mg_rooms.specs.aids.Gives.{Gives}
 
--- A rejected call changes nothing.
+-- A refused call changes nothing.
 pub refused : {A : Type 0} (record_of : A → Record) (old new : Registry) (r : Result A ErrorNumber)
     (outcome : Result (Registry × Record) ErrorNumber) → Gives record_of old new r outcome → OnErr r (new ≡ old)
 refused record_of old new (Ok d) outcome h = tt

@@ -45,7 +45,7 @@ abbrev after : Registry → Result (Registry × Record) ErrorNumber → Registry
 after w (Ok (next, done)) = next
 after w (Err refusal) = w
 
--- The registry after a sequence of commands. A rejected command changes nothing.
+-- The registry after a sequence of commands. A refused command changes nothing.
 abbrev run : List Command → Registry → Registry
 run [] w = w
 run (command ∷ commands) w = run commands (after w (command w))
@@ -95,7 +95,7 @@ pub last_context : answers (adds New ∷ adds New ∷ []) (start_of (limits term
 unfolding add
 last_context = refl
 
--- A context that has ended does not exist again, and its number is not reused.
+-- A context that has ended no longer exists, and its number is not reused.
 pub ends_with_last_member : answers (adds New ∷ subtracts (Number 1) 1 ∷ adds (Number 1) ∷ adds New ∷ [])
     (with_slots termination_limit) ≡ Ok (1, 1) ∷ Ok (1, 1) ∷ Err UnknownContext ∷ Ok (2, 2) ∷ []
 unfolding add subtract

@@ -20,8 +20,8 @@ pub record HasPool (limits : Limits) : Type 0 where
   pub even : limits.base_port % 2 ≡ 0
   pub last : slot_port limits (limits.slots - 1) ≤ 65535
 
--- The first numbers are valid. Context 0 is the null context, and the numbers above the last context number denote $
--- and *.
+-- The first numbers are valid. Context 0 is the null context, and the two numbers after the last context number denote
+-- $ and *.
 pub record HasFirstNumbers (limits : Limits) : Type 0 where
   pub termination : 0 < limits.first_termination
   pub context : 0 < limits.first_context

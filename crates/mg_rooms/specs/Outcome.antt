@@ -28,13 +28,14 @@ named w n = ok_or (record_at w n) refusals.UnknownTermination
 abbrev pub there : Registry → ℕ → Result (Unit {0}) ErrorNumber
 there w c = elim (context_at w c) [ Some x ↦ Ok tt | None ↦ Err refusals.UnknownContext ]
 
--- The check that a termination may enter the action's context: the context must exist or be new.
+-- The check that a termination may enter the action's context: the context must exist or be new, and must not be the
+-- null context.
 abbrev pub may_enter : Registry → Target → Result (Unit {0}) ErrorNumber
 may_enter w targets.Null = Err refusals.UnknownContext
 may_enter w targets.New = Ok tt
 may_enter w (targets.Number c) = there w c
 
--- The check that the action's context may have members: the context must exist.
+-- The check that the action's context may have members: the context must exist, and must not be the null context.
 abbrev pub may_have_members : Registry → Target → Result (Unit {0}) ErrorNumber
 may_have_members w targets.Null = Err refusals.NotInContext
 may_have_members w targets.New = Err refusals.UnknownContext

@@ -11,13 +11,14 @@ use Rattle.mg_rooms.specs.declared.media_setting.MediaSetting.{MediaSetting}
 use Rattle.mg_rooms.specs.declared.media_setting.MediaSetting.TheVariants.{Clear, Offer as Offered}
 use Rattle.mg_rooms.specs.declared.media_setting.MediaSetting.TheVariants.{Unreadable}
 
--- The depth after a command, in frames of 20 ms, limited to 2–16.
+-- The depth after a command, in frames of 20 ms: the requested depth, limited to 2–16, or the old depth if none is
+-- requested.
 abbrev pub depth_after : Option ℕ → ℕ → ℕ
 depth_after None old = old
 depth_after (Some depth) old = min (max depth least_depth) greatest_depth
 
--- The setting after an offer: the alternative that is chosen. If no alternative can be chosen, the command is rejected.
--- An offer without alternatives is blank, and removes the old setting.
+-- The setting after an offer: the alternative that is chosen. If there are alternatives, but none can be chosen, the
+-- command is refused. An offer without alternatives is blank, and removes the old setting.
 abbrev pub offered : (List (Option Offer) → Option Chosen) → List (Option Offer)
     → Result (Option Chosen) ErrorNumber
 offered choice [] = Ok None

@@ -111,7 +111,7 @@ pub fn first_free(held: &[bool; MEMBERS]) -> Option<usize>
     held.iter().position(|is_held| !*is_held)
 }
 
-/// Adds a termination to the context in a room.
+/// Adds a termination to the context in a room, if the room has a context.
 pub fn enter_entry(entry: &mut Option<Context>, number: u32)
     requires room { IfSome entry.old (λ x. length x.members < MEMBERS) }
     ensures value { entry.new ≡ entered_entry number entry.old }
@@ -121,7 +121,8 @@ pub fn enter_entry(entry: &mut Option<Context>, number: u32)
     }
 }
 
-/// Removes a termination from the context in a room. The context ends if it has no other member.
+/// Removes a termination from the context in a room, if the room has a context. The context ends if it has no other
+/// member.
 pub fn leave_entry(entry: &mut Option<Context>, number: u32)
     ensures value { entry.new ≡ left_entry number entry.old }
 {

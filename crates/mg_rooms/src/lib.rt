@@ -7,7 +7,7 @@
 //! that the crates above can use fixed-size tables. Termination and context numbers only go up, and none is used twice.
 //!
 //! Each command names the action's context as a [`Target`] and, except for an Add, a termination by its number. Either
-//! the command succeeds, or the first check that fails rejects it and nothing changes:
+//! the command succeeds, or the first check that fails refuses it and nothing changes:
 //!
 //! ```rust
 //! let mut rooms = Rooms::new(alloc, limits)?;
@@ -21,8 +21,8 @@
 //! In contracts, a [`Rooms`] appears as a registry: the terminations and contexts in numerical order
 //! (`specs/Registry.antt`). The contract of each command states its outcome on that registry (`specs/Outcome.antt`). It
 //! also states that the new registry is consistent (`specs/Consistent.antt`), and what the command leaves unchanged
-//! (`specs/aids/Lasting.antt`). Each command returns the termination, together with the room of its context.
-//! [`theorems`] states when a resource is exhausted.
+//! (`specs/aids/Lasting.antt`). Each command returns the termination, together with the room of its context; a Move
+//! returns both as they were before and after it. [`theorems`] states when a resource is exhausted.
 #![tactic(auto)]
 
 mod changes;

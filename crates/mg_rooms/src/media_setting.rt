@@ -7,6 +7,6 @@ pub enum MediaSetting {
     Clear,
     /// The alternatives of the content. If there are none, the content is blank.
     Offer(Sessions),
-    /// The content is not a session description.
+    /// The content is malformed, or has more than eight alternatives.
     Unreadable,
 }

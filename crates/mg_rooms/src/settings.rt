@@ -12,7 +12,7 @@ use mg_words::{ErrorNumber, MAX_DEPTH, MIN_DEPTH, Mode};
 pub struct Settings {
     /// The mode of the stream.
     pub mode: Option<Mode>,
-    /// The depth of the play list in frames of 20 ms, limited to 2–16 (see [`depth_within`]).
+    /// The depth of the play list, in frames of 20 ms. It is limited to 2–16 when it is set (see [`depth_within`]).
     pub depth: Option<u16>,
     /// The media that the gateway should receive.
     pub local: Option<MediaSetting>,
@@ -77,8 +77,8 @@ impl Settings {
     }
 }
 
-/// Returns the choice from a Local's alternatives, or `None` if it has no alternatives. Fails if no alternative is
-/// acceptable.
+/// Returns the choice from a Local's alternatives, or `None` if it has no alternatives. Fails if it has alternatives,
+/// but none of them is acceptable.
 #[tactic(auto, using(crate::proofs::SettingsLemmas::rules))]
 fn chosen_local(
     sessions: &Sessions,
@@ -94,8 +94,8 @@ fn chosen_local(
     Ok(Some(chosen))
 }
 
-/// Returns the choice from a Remote's alternatives, or `None` if it has no alternatives. Fails if no alternative is
-/// acceptable.
+/// Returns the choice from a Remote's alternatives, or `None` if it has no alternatives. Fails if it has alternatives,
+/// but none of them is acceptable.
 #[tactic(auto, using(crate::proofs::SettingsLemmas::rules))]
 fn chosen_remote(sessions: &Sessions) -> Result<Option<Chosen>, ErrorNumber>
     ensures value { result ≡ offered remote_choice sessions.now }

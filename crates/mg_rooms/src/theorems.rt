@@ -16,7 +16,7 @@ ghost use Rattle.mg_rooms.specs.Consistent.{IsConsistent};
 
 /// A context that is not full has a free seat, and a gateway below the limit on contexts has a free room.
 ///
-/// A command is rejected with "context full" or "no context left" only if that is true.
+/// A command is refused with "context full" or "no context left" only if that is true.
 pub fn tables_that_are_not_full_have_a_free_place()
     ensures seat { (w : Registry) (c : ℕ) → IsConsistent w → length (members_at w c) < MEMBERS →
         IsSome (free_seat w c) }

@@ -1,6 +1,6 @@
 //! Reads and writes RTP packets (RFC 3550, section 5.1).
 //!
-//! [`read`] parses a datagram and borrows its payload. [`write`] builds a packet from one frame of 160 samples. Neither
+//! [`read`] parses a datagram and borrows its payload. [`write`] builds a packet with a payload of 160 bytes. Neither
 //! function allocates.
 //!
 //! ```rust

@@ -12,7 +12,7 @@ pub record Scanning : Type 0 where
   pub at : ℕ
   pub named : Bool
 
--- The bytes that are not scanned yet.
+-- The bytes that have not been scanned yet.
 abbrev pub rest_of : Scanning → List ℕ
 rest_of s = drop s.at s.source
 

@@ -90,8 +90,8 @@ octets_closed bs (Some n) =
 abbrev pub octets_at : List ℕ → Option (Result TokenAndRest ScanFault)
 octets_at bs = octets_closed bs (content_len false bs)
 
--- The token that starts at the first byte, or a fault. The flag says whether the token before it announces a session
--- description.
+-- The token that starts at the first byte, or a fault. It is `None` if there are no bytes. The flag says whether the
+-- previous token announces a session description.
 unfoldable pub token_after : Bool → List ℕ → Option (Result TokenAndRest ScanFault)
 token_after named [] = None
 token_after named (b ∷ bs) = if named && b == 123 then octets_at bs else token_at (b ∷ bs)
@@ -103,8 +103,8 @@ names_octets Word text =
     || str_eq_ignore_ascii_case text (codes "Remote") || str_eq_ignore_ascii_case text (codes "R")
 names_octets _ text = false
 
--- The first token after white space, or a fault. The flag says whether the token before it announces a session
--- description.
+-- The first token after white space, or a fault. It is `None` if the bytes are only white space. The flag says whether
+-- the previous token announces a session description.
 abbrev pub first_token : Bool → List ℕ → Option (Result TokenAndRest ScanFault)
 first_token named bytes = token_after named (after_white false bytes)
 

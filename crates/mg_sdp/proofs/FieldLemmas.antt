@@ -42,7 +42,8 @@ pub fields_none : fields_of [] ≡ []
 unfolding fields_of
 fields_none = refl
 
--- If the rest isn't all blanks, its first field ends at the first blank after the leading ones.
+-- If the rest isn't all blanks, its first field starts after the leading blanks. It ends at the next blank, or at the
+-- end of the rest.
 pub next_field : (rest text : List ℕ) → text ≡ drop (prefix_len is_space_or_tab rest) rest → 0 < length text →
     fields_of rest ≡ front text ∷ fields_of (after text)
 next_field rest text same some = sym (fields_after rest) ∙ ap fields_of (sym same) ∙ after_blanks rest text same some

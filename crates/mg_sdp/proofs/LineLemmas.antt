@@ -56,7 +56,7 @@ end_filled : (x : ℕ) (xs : List ℕ) → is_space_or_tab x ≡ false → is_fi
 end_filled x xs e = taken_filled (length (x ∷ xs) - suffix_len is_space_or_tab (x ∷ xs)) x xs
     (omega (arith, suffix_short is_space_or_tab x xs e))
 
--- The bytes before the first line end.
+-- The bytes before the first line end, or all bytes if there is no line end.
 abbrev pub front : List ℕ → List ℕ
 front text = take (position_or_len is_line_end text) text
 
@@ -102,7 +102,8 @@ pub lines_none : content_lines [] ≡ []
 unfolding content_lines
 lines_none = refl
 
--- If the rest isn't all white space, its first line ends at the first line end after the leading white space.
+-- If the rest isn't all white space, its first line starts after the leading white space. It ends at the next line end,
+-- or at the end of the rest.
 pub next_line : (rest text : List ℕ) → text ≡ drop (prefix_len is_white rest) rest → 0 < length text →
     content_lines rest ≡ trimmed_end (front text) ∷ content_lines (after text)
 next_line rest text same some = sym (lines_after rest) ∙ ap content_lines (sym same) ∙ after_white rest text same some

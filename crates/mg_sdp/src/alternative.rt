@@ -25,7 +25,7 @@ fn is_served_attribute(value: &[u8]) -> bool
     !value.starts_with(b"ptime:") || value == b"ptime:20".as_slice()
 }
 
-/// Adds a media line.
+/// Adds a media line. The result is faulty if the line is not supported, or is not the first media line.
 fn media_with_line(media: AlternativePart<MediaLine>, value: &[u8]) -> AlternativePart<MediaLine>
     ensures value { result ≡ media_with_line media value.now }
 {

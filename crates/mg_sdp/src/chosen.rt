@@ -67,8 +67,8 @@ fn first_remote(offers: &[Option<Offer>]) -> Option<Offer>
         .find(|offer| is_served_remote(offer))
 }
 
-/// Chooses from the alternatives of a Local: the first supported one that allows the gateway's address and the
-/// termination's port.
+/// Chooses an alternative of a Local: the first supported one that allows the gateway's address and the termination's
+/// port.
 ///
 /// If the law is left to the gateway, it chooses mu-law. Returns `None` if no alternative is acceptable.
 pub fn choose(sessions: &Sessions, address: [u8; 4], port: u16) -> Option<Chosen>
@@ -79,7 +79,7 @@ pub fn choose(sessions: &Sessions, address: [u8; 4], port: u16) -> Option<Chosen
     Some(Chosen { address, port, law })
 }
 
-/// Chooses from the alternatives of a Remote: the first supported one with an address, a port other than 0, and a law.
+/// Chooses an alternative of a Remote: the first supported one with an address, a port other than 0, and a law.
 ///
 /// Returns `None` if no alternative is acceptable.
 pub fn choose_remote(sessions: &Sessions) -> Option<Chosen>

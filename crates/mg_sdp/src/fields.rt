@@ -12,7 +12,7 @@ fn blanks_len(text: &[u8]) -> usize
     text.iter().take_while(|b| is_space_or_tab(**b)).count()
 }
 
-/// Returns how many bytes precede the first space or tab.
+/// Returns how many bytes precede the first space or tab, or the length of the text if it has neither.
 fn field_len(text: &[u8]) -> usize
     ensures in_range { result ≤ length text.now }
     ensures value { result ≡ position_or_len is_space_or_tab text.now }

@@ -4,8 +4,8 @@
 //!
 //! The content of a descriptor has one or more alternatives, or none if it is blank. [`read_sessions`] returns what
 //! each of them offers. It accepts at most eight alternatives, and does not allocate. [`choose`] and [`choose_remote`]
-//! return the first offer that the gateway can accept. The gateway supports G.711 (RFC 3551, payload types 0 and 8) in
-//! packets of 20 ms over RTP. [`write_local`] and [`write_remote`] write the choice:
+//! return the address, port and law of the first offer that the gateway can accept. The gateway supports G.711 (RFC
+//! 3551, payload types 0 and 8) in packets of 20 ms over RTP. [`write_local`] and [`write_remote`] write the choice:
 //!
 //! ```rust
 //! let sessions = read_sessions(b"v=0\nc=IN IP4 $\nm=audio $ RTP/AVP 18 8 0\n")?;
@@ -13,7 +13,8 @@
 //! assert_eq!(rt; chosen.map(|chosen| chosen.law), Some(Law::A));
 //! ```
 //!
-//! A `$` as the address, port or format leaves the choice to the gateway.
+//! In a Local, a `$` as the address, port or format leaves the choice to the gateway. In a Remote, such an offer is not
+//! acceptable.
 //!
 //! [`theorems`] states that a written description reads back as itself, and that lines divide into alternatives in
 //! exactly one way.

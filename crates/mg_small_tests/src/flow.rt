@@ -58,7 +58,7 @@ enum Action<'a> {
     Enter(Place, bool, bool),
     Leave(Place),
     SetMode(Place, bool, bool),
-    /// Triples are applied in the first room.
+    /// A call to apply triples in the first room, and its outcome.
     Apply(&'a [Triple], Result<(), Overlap>),
     /// The listener at this place hears the first set of members, and the second set is silenced for it.
     Masks(Place, Mask, Mask),
@@ -160,7 +160,7 @@ const CASES: [(&str, &[Action<'static>]); 5] = [
     ),
 ];
 
-/// Lets a member enter. Returns whether the place was free and within the limits.
+/// Makes a member enter, if the place is free and within the limits. Returns whether it is.
 fn enter(table: &mut FlowTable, place: Place, talks: bool, listens: bool) -> bool {
     if place.room >= 64 || place.seat >= 64 || table.holds(place) {
         return false;
@@ -169,7 +169,7 @@ fn enter(table: &mut FlowTable, place: Place, talks: bool, listens: bool) -> boo
     true
 }
 
-/// Lets the member at a place leave. Returns whether the place was held.
+/// Removes the member at a place, if the place is held. Returns whether it was.
 fn leave(table: &mut FlowTable, place: Place) -> bool {
     if !table.holds(place) {
         return false;
@@ -178,7 +178,7 @@ fn leave(table: &mut FlowTable, place: Place) -> bool {
     true
 }
 
-/// Sets the mode of the member at a place. Returns whether the place is held.
+/// Sets the mode of the member at a place, if the place is held. Returns whether it is.
 fn set_mode(table: &mut FlowTable, place: Place, talks: bool, listens: bool) -> bool {
     if !table.holds(place) {
         return false;
@@ -209,7 +209,7 @@ fn does(table: &mut FlowTable, action: &Action<'_>) -> bool {
     }
 }
 
-/// Returns the number of the first action that has another outcome, or `None` if there is no such action.
+/// Returns the number of the first action without the given outcome, or `None` if there is no such action.
 fn first_wrong(alloc: Global, actions: &[Action<'_>]) -> Result<Option<usize>, AllocError> {
     let mut table = FlowTable::new(alloc)?;
     for at in 0..actions.len() {

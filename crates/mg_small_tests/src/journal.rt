@@ -220,7 +220,7 @@ fn does(journal: &mut FileJournal<MemoryFile>, action: &Action<'_>) -> bool {
     }
 }
 
-/// Returns the number of a case's first action that has another outcome, or `None` if there is no such action.
+/// Returns the number of a case's first action without the given outcome, or `None` if there is no such action.
 fn first_wrong(alloc: Global, case: &Case<'_>) -> io::Result<Option<usize>> {
     let mut journal = journal(alloc, case.faults)?;
     for at in 0..case.actions.len() {
@@ -259,7 +259,7 @@ fn rest(alloc: Global, opening: &mut Opening<MemoryFile>) -> io::Result<Vec<u8>>
     Ok(read)
 }
 
-/// Returns whether the file of a journal holds this text and accepts another line.
+/// Returns whether the file of a journal holds this text, and another line can be appended to it.
 fn goes_on(mut journal: FileJournal<MemoryFile>, text: &[u8]) -> bool {
     journal.file().bytes() == text
         && journal.append(b"three\n", Durability::Synced) == Ok(())

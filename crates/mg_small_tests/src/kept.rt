@@ -81,7 +81,8 @@ const CASES: [(&str, &[Action<'static>]); 4] = [
     ),
 ];
 
-/// Keeps a reply. Returns whether no reply to the request was kept before, and the name and the text are not too long.
+/// Keeps a reply, if no reply to the request is kept yet and the name and the text are not too long. Returns whether
+/// the reply was kept.
 fn keep(kept: &mut Kept, sender: &[u8], number: u32, text: &[u8]) -> bool {
     if kept.find(sender, number).is_some() || sender.len() > 72 || text.len() > 16000 {
         return false;
@@ -90,7 +91,7 @@ fn keep(kept: &mut Kept, sender: &[u8], number: u32, text: &[u8]) -> bool {
     true
 }
 
-/// Keeps a reply for each number. Returns whether none of the requests had a kept reply before.
+/// Keeps a reply for each number, up to the first number for which this fails. Returns whether it failed for none.
 fn keep_all(kept: &mut Kept, first: u8, last: u8) -> bool {
     for number in first..=last {
         if !keep(kept, LOWER, u32::from(number), &[number]) {
@@ -114,7 +115,7 @@ fn does(kept: &mut Kept, action: &Action<'_>) -> bool {
     }
 }
 
-/// Returns the number of the first action that has another outcome, or `None` if there is no such action.
+/// Returns the number of the first action without the given outcome, or `None` if there is no such action.
 fn first_wrong(alloc: Global, actions: &[Action<'_>]) -> Result<Option<usize>, AllocError> {
     let mut kept = Kept::new(alloc)?;
     for at in 0..actions.len() {

@@ -1,7 +1,7 @@
 //! Tests of the smaller libraries through their public functions.
 //!
 //! Like the tests in `mg_tests`, these are in a separate crate, because a crate with tests is proved twice. They test
-//! behaviour that no contract states, and call the public functions with a few arguments.
+//! behavior that no contract states, and call the public functions with a few arguments.
 #![tactic(auto)]
 
 #[cfg(test)]

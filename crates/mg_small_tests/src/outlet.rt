@@ -323,7 +323,7 @@ fn does(outlet: &mut Scripted<'_>, action: &Action<'_>, long: &[u8]) -> bool {
     }
 }
 
-/// Returns the number of a case's first action that has another outcome, or `None` if there is no such action.
+/// Returns the number of a case's first action without the given outcome, or `None` if there is no such action.
 fn first_wrong(alloc: Global, case: &Case<'_>, long: &[u8]) -> Result<Option<usize>, AllocError> {
     let script = Script {
         steps: case.steps,

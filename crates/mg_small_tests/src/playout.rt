@@ -212,7 +212,7 @@ fn does(playout: &mut Playout, action: Action) -> bool {
     }
 }
 
-/// Returns the number of the first action that has another outcome, or `None` if there is no such action.
+/// Returns the number of the first action without the given outcome, or `None` if there is no such action.
 fn first_wrong(alloc: Global, actions: &[Action]) -> Result<Option<usize>, AllocError> {
     let mut playout = Playout::new(alloc)?;
     for at in 0..actions.len() {

@@ -276,7 +276,7 @@ fn is_file(file: Option<&MemoryFile>, wanted: Option<File<'_>>) -> bool {
     }
 }
 
-/// Returns the number of a case's first action that has another outcome, or `None` if there is no such action.
+/// Returns the number of a case's first action without the given outcome, or `None` if there is no such action.
 fn first_wrong(ports: &mut FakePorts, case: &Case<'_>) -> Option<usize> {
     let mut buffer = [0; 8];
     let room = case.room.min(8);

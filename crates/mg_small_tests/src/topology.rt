@@ -117,7 +117,7 @@ const CASES: [(&str, &[Action<'static>]); 4] = [
     ),
 ];
 
-/// Takes a seat. Returns whether the seat exists and was free.
+/// Takes a seat, if it exists and is free. Returns whether it could be taken.
 fn enter(topology: &mut Topology, seat: usize) -> bool {
     if seat >= SEATS || topology.holds(seat) {
         return false;
@@ -126,7 +126,7 @@ fn enter(topology: &mut Topology, seat: usize) -> bool {
     true
 }
 
-/// Leaves a seat. Returns whether the seat was held.
+/// Leaves a seat, if it is held. Returns whether it was.
 fn leave(topology: &mut Topology, seat: usize) -> bool {
     if !topology.holds(seat) {
         return false;
@@ -148,7 +148,7 @@ fn does(topology: &mut Topology, action: &Action<'_>) -> bool {
     }
 }
 
-/// Returns the number of the first action that has another outcome, or `None` if there is no such action.
+/// Returns the number of the first action without the given outcome, or `None` if there is no such action.
 fn first_wrong(actions: &[Action<'_>]) -> Option<usize> {
     let mut topology = Topology::new();
     for at in 0..actions.len() {

@@ -226,7 +226,7 @@ module _ (frames : List (List ℤ)) (rooms : List (Option ℕ)) (w w' : ℕ) (to
             sym (total_is new r i)));
       }
 
--- In a list of rows that are not joined to a room, no row has a room.
+-- If no row is joined to a room, a lookup finds no room for any row.
 joined_nowhere : (n row : ℕ) → get_or (replicate {A = Option ℕ} n None) row None ≡ None
 joined_nowhere n row = elim (cases_lt row n) [
   | inl below ↦ get_or-replicate n row None None below

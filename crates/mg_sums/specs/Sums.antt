@@ -7,7 +7,7 @@ use Rattle.std.specs.List.{list_any, range_with_len}
 use Rattle.mg_sums.specs.Samples.{sample, sum_of, nearest_sample}
 
 -- The state: the frame of each row, the room that each row is joined to, or `None`, and a work counter. The counter
--- says how often a row was added or subtracted, modulo 2^32.
+-- says how often a row was added or subtracted, modulo 2^32. A mix without a base counts as one subtraction.
 pub record SumsState : Type 0 where
   pub frames : List (List ℤ)
   pub rooms : List (Option ℕ)

@@ -20,8 +20,9 @@
 //! ```
 //!
 //! [`Sums::work`] counts how often a row is added or subtracted. Joining or leaving counts once, and setting the frame
-//! of a joined row counts twice. A mix counts once, and once more for each silenced row. Only the module `rows` sees
-//! the fields of a row; other code reads frames and totals through [`Sums::frame`] and [`Sums::total`].
+//! of a joined row counts twice. A mix counts once, even without a base, and once more for each silenced row. Only the
+//! module `rows` sees the fields of a row; other code reads frames and totals through [`Sums::frame`] and
+//! [`Sums::total`].
 //!
 //! [`Sums::new`] allocates all memory; no other call allocates. `specs/Sums.antt` defines totals and mixes, and
 //! [`theorems`] states the consequences. The vector code is in [`kernels`]; [`ranges`] supplies proofs with the ranges

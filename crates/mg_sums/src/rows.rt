@@ -56,7 +56,7 @@ fn count(work: &mut u32)
 }
 
 impl FrameRow {
-    /// Returns the row of a frame, or of silence.
+    /// Returns the row of a frame, or a silent row for `None`.
     pub fn new(frame: Option<&Frame>) -> Self
         ensures value { result ≡ frame_or_silence (option_copied frame.entry) }
         ensures frame { IsFrame result }

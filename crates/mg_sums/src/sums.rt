@@ -166,7 +166,7 @@ impl Sums {
         self.rooms[row.number()]
     }
 
-    /// Returns how often a row was added or subtracted, modulo 2^32.
+    /// Returns how often a row was added or subtracted, modulo 2^32. A mix without a base counts as one subtraction.
     pub fn work(&self) -> u32
         ensures { result ≡ self.now.work }
     {

@@ -1,7 +1,7 @@
--- The grammar of messages by productions: the part of RFC 3525, Annex B.2, that this gateway
--- reads. `IsX x ts rest` says that the tokens ts start with x, and that rest follows it. `P ▹ Q`
--- is P followed by Q, and `P or Q` is one of the two. Above each production is its text: parts in
--- square brackets are optional, * repeats, and words in capitals are keywords in either form.
+-- The grammar of messages by productions: the part of RFC 3525, Annex B.2, that this gateway reads. `IsX x ts rest`
+-- says that the tokens ts start with x, and that rest follows it. `P ▹ Q` is P followed by Q, and `P or Q` is one of
+-- the two. Above each production is its text: parts in square brackets are optional, and * repeats. Words in capitals
+-- are keywords in either form, except for ON and OFF, which have one form.
 use Rattle.std.specs.Prelude.{◌≡◌, ◌≢◌, ℕ, ◌⊎◌, Bool, true, false, ◌==◌, List, [], ◌∷◌, ◌++◌}
 use Rattle.std.specs.Prelude.{Option, Some, None, filter_map, codes, if◌then◌else◌}
 use Rattle.std.specs.Option.{option_and_then}
@@ -295,7 +295,7 @@ IsSequence source [] ts rest = ⊥
 IsSequence source (x ∷ []) ts rest = IsItem source x ts rest
 IsSequence source (x ∷ y ∷ xs) ts rest = (IsItem source x ▹ IsSequence source (y ∷ xs)) ts rest
 
--- The body with these items.
+-- The body with these items, or `Ignored` if there are none.
 abbrev pub body_of : List MessageItem → Body
 body_of [] = bodies.Ignored
 body_of (x ∷ xs) = bodies.Requests (x ∷ xs)

@@ -99,7 +99,7 @@ fn sequence_at(
     Err(ReadFault::Syntax(place_of(source, rest)))
 }
 
-/// Returns the body with these items.
+/// Returns the body with these items, or `Ignored` if there are none.
 fn body_of(items: Vec<MessageItem>) -> Body
     ensures value { result ≡ body_of items.items }
 {

@@ -30,7 +30,7 @@ fn bytes_are_tokens(source: &[u8])
     }
 }
 
-/// Each datagram has exactly one reading. It is a message with its tree, a message of another version, a message that
+/// Each datagram has exactly one reading. It is a message with its tree, a message of another version, a datagram that
 /// exceeds a limit, or not a message.
 pub fn one_reading(source: &[u8])
     ensures some { (reading : MessageReading) × IsMessageReading source.now reading }

@@ -154,7 +154,7 @@ fn any_overlaps(triples: &[Triple]) -> bool
     triples.iter().any(|triple| triple.overlaps())
 }
 
-/// Lets each listener hear the member in the seat.
+/// Adds the seat to each listener's row of talkers.
 fn unmute_seat(rows: &mut [Mask; SEATS], seat: usize)
     requires { seat < SEATS }
     ensures { (talker listener : ℕ) → listener < SEATS →

@@ -24,7 +24,7 @@ greatest_depth = 16
 abbrev pub first_depth : ℕ
 first_depth = 4
 
--- The maximum size of a datagram that is read, in bytes.
+-- The maximum size of a control datagram that is read, in bytes.
 abbrev pub message_limit : ℕ
 message_limit = 8192
 

@@ -5,13 +5,13 @@ use Rattle.mg_words.specs.declared.mode.Mode.{Mode}
 use Rattle.mg_words.specs.declared.mode.Mode.TheVariants.{Inactive, SendOnly, ReceiveOnly}
 use Rattle.mg_words.specs.declared.mode.Mode.TheVariants.{SendReceive, Loopback}
 
--- Whether the other members hear a termination in this mode.
+-- Whether the other members can hear a termination in this mode.
 abbrev pub talks : Mode → Bool
 talks ReceiveOnly = true
 talks SendReceive = true
 talks _ = false
 
--- Whether a termination in this mode hears the other members.
+-- Whether a termination in this mode can hear the other members.
 abbrev pub listens : Mode → Bool
 listens SendOnly = true
 listens SendReceive = true

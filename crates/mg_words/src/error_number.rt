@@ -7,8 +7,8 @@ use itoa::Buffer;
 /// An upper bound on the length of an error descriptor, in bytes.
 pub const ERROR_LIMIT: usize = 64;
 
-/// Why a message, an action or a command was rejected. The numbers are from the standard's list of error codes (RFC
-/// 3525, section 14.2; H.248.8); the texts are this gateway's own.
+/// Why a message, a request, an action or a command is answered with an error. The numbers are from the standard's list
+/// of error codes (RFC 3525, section 14.2; H.248.8); the texts are this gateway's own.
 #[derive(Clone, Copy, Debug, PartialEq, Eq)]
 pub enum ErrorNumber {
     /// The message does not follow the grammar.
@@ -33,17 +33,19 @@ pub enum ErrorNumber {
     AlreadyInContext,
     /// The context has as many members as the limit allows.
     ContextFull,
-    /// The termination is in another context, or a triple names a termination that is not a member.
+    /// The termination is in another context, or a triple names something that is not a member of the context.
     NotInContext,
-    /// A descriptor has content that this gateway does not support.
+    /// A descriptor has content that this gateway does not support. Or an action has a Priority, an Emergency, or a
+    /// ContextAudit of more than the topology.
     DescriptorNotServed,
     /// A property, or its value, is not supported.
     PropertyNotServed,
-    /// A keyword that may occur only once occurs again.
+    /// A keyword or a property that may occur only once occurs again.
     DescriptorTwice,
-    /// The message exceeds a limit, or asks for a command, context, stream or reservation that is not supported.
+    /// The message exceeds a limit, has a command with the prefix `W-`, or asks for a command, context, stream or
+    /// reservation that is not supported.
     NotServed,
-    /// None of the session descriptions in a Local or Remote is acceptable.
+    /// A Local or Remote cannot be read, or none of its session descriptions is acceptable.
     NoMedia,
     /// The reply would exceed the size limit. The request's commands stay in effect.
     ReplyTooLong,

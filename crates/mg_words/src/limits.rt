@@ -25,7 +25,7 @@ pub const SAMPLES: usize = 160;
 /// The duration of a frame, in milliseconds.
 pub const FRAME_MS: u16 = 20;
 
-/// The maximum size of a datagram that is read, in bytes.
+/// The maximum size of a control datagram that is read, in bytes.
 pub const MESSAGE_LIMIT: usize = 8192;
 
 /// The maximum number of requests in a message.
@@ -46,7 +46,7 @@ pub const ALTERNATIVE_LIMIT: usize = 8;
 /// The maximum size of a reply, in bytes.
 pub const REPLY_LIMIT: usize = 16000;
 
-/// How many replies are kept to answer retransmitted requests.
+/// The maximum number of replies that are kept to answer retransmitted requests.
 pub const KEPT_REPLIES: usize = 32;
 
 /// The largest number that a termination can have.

@@ -36,14 +36,14 @@ impl Mode {
     }
 }
 
-/// Returns whether the other members of the context hear a termination in this mode.
+/// Returns whether the other members of the context can hear a termination in this mode.
 pub fn mode_talks(mode: Mode) -> bool
     ensures value { result ≡ talks mode }
 {
     matches!(mode, Mode::SendReceive | Mode::ReceiveOnly)
 }
 
-/// Returns whether a termination in this mode hears the other members of the context.
+/// Returns whether a termination in this mode can hear the other members of the context.
 pub fn mode_listens(mode: Mode) -> bool
     ensures value { result ≡ listens mode }
 {

@@ -3,11 +3,11 @@
 pub struct Stats {
     /// Packets sent (`rtp/ps`).
     pub ps: u64,
-    /// Packets received (`rtp/pr`).
+    /// Received packets whose frames were passed to the play list (`rtp/pr`).
     pub pr: u64,
     /// Octets of payload sent (`nt/os`).
     pub os: u64,
-    /// Octets of payload received (`nt/or`).
+    /// Octets of payload in received packets whose frames were passed to the play list (`nt/or`).
     pub or_: u64,
 }
 

@@ -102,7 +102,7 @@ abbrev pub AreKeptListeners : Shown → Option (List Listener) → World → Typ
 AreKeptListeners shows.Sent kept w = kept ≡ None
 AreKeptListeners shows.SentAndFlows kept w = kept ≡ Some (listeners_of w.gateway)
 
--- The state represents the world, and the stored terminations are those of the world.
+-- The state represents the world and, if changes are shown, the stored terminations are those of the world.
 pub record Follows (shown : Shown) (state : CoreState) (kept : Option (List Listener)) (w : World)
     : Type 0 where
   pub stands : StandsFor state w
@@ -171,7 +171,7 @@ pub record AllRanCounted (config : Config) (shown : Shown) (script : List ℕ) (
   pub stands : StandsFor state last
   pub lines : count ≡ length (lines_of true script)
 
--- A whole input was run. If the run failed, the fault determines how far it got.
+-- A whole input was run, or the run failed. In that case, the fault determines how far it got.
 abbrev pub AllRan : Config → Shown → (input rest : Option (List ℕ)) → CoreState → ℕ → ℕ
     → (old new : Option (List ℕ)) → Result (Unit {0}) ScriptFault → Type 0
 AllRan config shown input rest state count n old new (Ok done) =

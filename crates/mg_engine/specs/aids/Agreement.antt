@@ -12,7 +12,7 @@ use Rattle.mg_engine.specs.Gateway.{Gateway, stats_of}
 use Rattle.mg_engine.specs.Outcome.{add, modify, move_to, subtract, apply_triples}
 use Rattle.mg_engine.specs.Tick.{all_played, after_tick}
 
--- Both gateways reject an edit with the same error, or both apply it with the same result and still agree.
+-- Both gateways refuse an edit with the same error, or both apply it with the same result and still agree.
 abbrev pub EndsAlike : {A : Type 0} → List ℕ → Result (Gateway × A) ErrorNumber
     → Result (Gateway × A) ErrorNumber → Type 0
 EndsAlike some (Ok p) (Ok q) = AgreeOutside some p.0 q.0 × (p.1 ≡ q.1)
@@ -40,7 +40,8 @@ SameArrivalKeepsAgreement =
     → AgreeOutside some a b → Takes a port source bytes x t → Takes b port source bytes y u
     → AgreeOutside some x y
 
--- If only one of the gateways receives an RTP datagram for one of these terminations, the gateways still agree.
+-- Suppose two gateways agree outside some terminations. If only one of the gateways receives an RTP datagram for one of
+-- these terminations, they still agree.
 abbrev pub OneArrivalKeepsAgreement : Type 0
 OneArrivalKeepsAgreement =
     (some : List ℕ) (a b x : Gateway) (port : ℕ) (source bytes : List ℕ) (t : Taken)
@@ -57,7 +58,8 @@ SameTickKeepsAgreement =
     → AgreeOutside some (all_played a) (all_played b)
     × AgreeOutside some (after_tick a) (after_tick b)
 
--- The counters of every termination are equal in both gateways, except for the counters of received packets.
+-- If two gateways agree outside some terminations, the counters of every termination are equal in both, except for the
+-- counters of received packets.
 abbrev pub SameStatsButReceived : Type 0
 SameStatsButReceived =
     (some : List ℕ) (a b : Gateway) (n : ℕ) → AgreeOutside some a b

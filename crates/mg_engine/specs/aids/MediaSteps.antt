@@ -88,7 +88,8 @@ abbrev pub transmitted_by : ℕ → Stats → Stats
 transmitted_by count s =
     record s { ps = counted_up count s.ps; os = counted_up (160 * count) s.os }
 
--- The media after this many ticks (at least one), if the play list is idle.
+-- The media after this many ticks (at least one), if the play list is idle. The flag says whether the termination
+-- sends.
 abbrev pub slot_passed : Bool → ℕ → SlotMedia → SlotMedia
 slot_passed true count m =
     record m {

@@ -39,7 +39,8 @@ flows_between table (Some p) (Some q) = flow.flows table p q
 flows_between table (Some p) None = false
 flows_between table None q = false
 
--- Whether the talker at one place is silenced for the listener at another.
+-- Whether the talker at one place is silenced for the listener at another. No talker is silenced if either place is
+-- missing.
 abbrev pub is_silenced_between : List flow.RoomFlows → Option Place → Option Place → Bool
 is_silenced_between table (Some p) (Some q) = flow.is_silenced table p q
 is_silenced_between table (Some p) None = false
@@ -101,12 +102,12 @@ abbrev pub IsEnded : rooms.Registry → List media.SlotMedia → List media.Slot
 IsEnded w old new slot = media_at new slot
     ≡ media_steps.slot_ended (slot_sends w slot) (media_at old slot)
 
--- The state with this work counter and these shares. Mixes change the counter; packets whose payloads are shared change
--- the shares.
+-- The state with this work counter and these shares. Mixes change the counter; packets whose payloads can be shared
+-- change the shares.
 abbrev pub with_mixes : EngineState → ℕ → List (List Share) → EngineState
 with_mixes k work shares = record k { sums = record k.sums { work = work }; shares = shares }
 
--- The outcome of a datagram for a slot: a frame was placed, or the media are unchanged.
+-- The outcome of a datagram for a slot: a frame was passed to the slot's play list, or the media are unchanged.
 abbrev pub PlacedAt : List media.SlotMedia → List media.SlotMedia → ℕ → Arrived → Taken → Type 0
 PlacedAt old new slot (Ok p) result =
     (new ≡ slice_set old slot (media_steps.slot_placed (media_at old slot) p.0 p.1).0)

@@ -1,4 +1,4 @@
--- The packets of a tick whose payloads are shared, grouped by room.
+-- The packets of a tick whose payloads can be shared, grouped by room.
 use Rattle.std.specs.Prelude.{◌≡◌, ℕ, ℤ, pos, ◌<◌, ◌&&◌, ◌==◌, Bool, false, List, [], ◌∷◌, ◌++◌}
 use Rattle.std.specs.Prelude.{All, length, nat_lt, map, drop, slice_index_or, slice_set}
 use Rattle.std.specs.Prelude.{Option, Some, None, if◌then◌else◌}

@@ -19,7 +19,7 @@ use Rattle.mg_sums.specs.aids.Sums.{frame_of_row}
 
 -- The state of an engine: its configuration, the terminations and contexts, the media of each slot, and the table of
 -- flows. For the rows of slots, it has their frames and the rooms that they are joined to. For each room, it lists the
--- packets of the last tick whose payloads are shared.
+-- packets of the last tick whose payloads can be shared.
 pub record EngineState : Type 0 where
   pub config : Config
   pub rooms : rooms.Registry

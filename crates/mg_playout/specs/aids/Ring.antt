@@ -13,7 +13,8 @@ pub record IsRingOfPlaces (ring : Buffer (Option (List ℤ))) : Type 0 where
   pub at_most : length ring.items ≤ greatest_depth + 1
   pub frames : All (λ item. IfSome item IsFrame) ring.items
 
--- The frames that a play list keeps: the last frame played, if any, and the frames that are waiting.
+-- The frames that a play list keeps: the frame that was due in the last tick, if it had arrived, and the frames that
+-- are waiting.
 pub record KeptFrames : Type 0 where
   pub last : Option (List ℤ)
   pub places : FramePlaces

@@ -15,7 +15,7 @@ pub record Places (bytes : List ℕ) (want : Option (Result TokenAndRest ScanFau
   pub next : x.next ≤ length bytes
   pub is : want ≡ token_and_rest x.kind (slice_range bytes x.start x.end) (drop x.next bytes)
 
--- The code returns the token or the fault that the definitions require.
+-- The code returns the token, the fault or `None`, as the definitions require.
 abbrev pub FindsAs : List ℕ → Option (Result TokenAndRest ScanFault)
     → Option (Result Found ScanFault)
     → Type 0

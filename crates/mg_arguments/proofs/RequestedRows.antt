@@ -54,7 +54,7 @@ anybody report = record {
 abbrev with_given : Given → Service
 with_given given = record (anybody 0) { given = given }
 
--- All numbers with which RTP packets start are drawn.
+-- All initial numbers of RTP packets are drawn.
 abbrev all_drawn : Draws
 all_drawn = record { ssrc = true; sequence = true; timestamp = true }
 

@@ -16,7 +16,7 @@ abbrev pub is_multicast : List ℕ → Bool
 is_multicast address = nat_le 224 (slice_index address 0)
 
 -- The gateway's own address, in dotted decimal. It appears in session descriptions, or as the gateway's name. So it is
--- a unicast address, and not 0.0.0.0.
+-- a unicast address, and not 0.0.0.0. The address from which a check sends messages has the same form.
 abbrev pub own_address : List ℕ → Result (List ℕ) AddressFault
 own_address text = do
   address ← ok_or (address_of text) Unreadable

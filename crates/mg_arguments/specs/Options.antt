@@ -295,7 +295,7 @@ reshapes_page found =
     is_given (codes "format") found
     || (is_given (codes "at") found || is_set (codes "audible") found)
 
--- The format in which answers are printed: a page, or the format that the option names.
+-- The format in which answers are printed: a page, or the format that the option names, which is text by default.
 abbrev pub form_in : List Row → Result Format Kinds
 form_in found =
     if is_set (codes "report") found
@@ -347,7 +347,7 @@ audible_of request =
     else option_map_or (λ n. Ok (Audible (record { talker = n; heard = request })))
     (number_named request.query.talker) (Err (ValueValidation ∷ []))
 
--- Whether options select a part of the intervals, or a page. Rules don't allow these options.
+-- Whether an option is given that rules don't allow: --listener, --talker, --at, --from, --to, --audible or --report.
 abbrev pub selects_part : List Row → Bool
 selects_part found =
     is_given (codes "listener") found || (is_given (codes "talker") found

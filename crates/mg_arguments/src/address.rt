@@ -4,7 +4,7 @@ ghost use Rattle.mg_arguments.specs.Address.{bind_address, is_multicast, own_add
 use crate::bind_address_fault::BindAddressFault;
 use mg_words::address_of;
 
-/// The reason why a string can't be a gateway's own address.
+/// The reason why a string can't be a gateway's own address, or the address from which a check sends messages.
 #[derive(Clone, Copy, Debug, PartialEq, Eq)]
 pub enum AddressFault {
     /// The string is not an IPv4 address in dotted decimal.
@@ -69,7 +69,8 @@ pub fn is_multicast(address: [u8; 4]) -> bool
     address[0] >= 224
 }
 
-/// Parses the address of a gateway: an IPv4 address in dotted decimal, with leading zeros allowed.
+/// Parses the address of a gateway, or the address from which a check sends messages: an IPv4 address in dotted
+/// decimal, with leading zeros allowed.
 pub fn own_address(text: &str) -> Result<[u8; 4], AddressFault>
     ensures value { result ≡ own_address text.now }
 {

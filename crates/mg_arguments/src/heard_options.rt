@@ -40,7 +40,7 @@ const NO_ZONE: &str = "invalid value for '--zone <ZONE>': empty, or longer than 
 
 const NO_FORMAT: &str = "invalid value for '--format <FORMAT>': not text, csv or json";
 
-/// The error message if options select a part of the intervals, or a page, although rules are given.
+/// The error message for an option that rules don't allow.
 const NO_PART: &str =
     "'--never' can't be used with '--listener', '--talker', '--at', '--from', '--to', '--audible' or '--report'";
 
@@ -182,7 +182,7 @@ fn time_of(
     }
 }
 
-/// Returns the format with this name.
+/// Returns the format with this name, or `None` if there is no such format.
 fn format_of(text: &str) -> Option<Format>
     ensures value { result ≡ format_of text.now }
 {
@@ -326,7 +326,7 @@ fn heard_of(request: HeardRequest) -> Result<Invocation, &'static str>
     Ok(Invocation::Heard(request))
 }
 
-/// Returns the run for the options' question who could hear whom, or the error message.
+/// Returns the run for the question of who could hear whom, as the options ask it, or the error message.
 fn heard_in(matches: &ArgMatches<'_>) -> Result<Invocation, &'static str>
     ensures run { IfOk result (λ run. request_for heard_of (rows_of (found_of matches.now)) ≡ Ok run) }
     ensures refused { IfErr result (λ _. request_for heard_of (rows_of (found_of matches.now)) ≡ Err (ValueValidation ∷ [])) }
@@ -366,7 +366,7 @@ fn audible_of(request: HeardRequest) -> Result<Invocation, &'static str>
     }))
 }
 
-/// Returns the run for the options' question when a talker was audible, or the error message.
+/// Returns the run for the question of when a talker was audible, as the options ask it, or the error message.
 fn audible_in(matches: &ArgMatches<'_>) -> Result<Invocation, &'static str>
     ensures run { IfOk result (λ run. request_for audible_of (rows_of (found_of matches.now)) ≡ Ok run) }
     ensures refused { IfErr result (λ _. request_for audible_of (rows_of (found_of matches.now)) ≡ Err (ValueValidation ∷ [])) }
@@ -375,7 +375,7 @@ fn audible_in(matches: &ArgMatches<'_>) -> Result<Invocation, &'static str>
     audible_of(request)
 }
 
-/// Returns whether options select a part of the intervals, or a page.
+/// Returns whether an option is given that rules don't allow.
 fn selects_part(matches: &ArgMatches<'_>) -> bool
     ensures value { result ≡ selects_part (rows_of (found_of matches.now)) }
 {
@@ -399,7 +399,7 @@ fn rules_of(matches: &ArgMatches<'_>) -> Result<Rules, RuleFault>
     }
 }
 
-/// Returns the run that checks the rules on the command line, or the error message.
+/// Returns the run that checks a script against the rules on the command line, or the error message.
 fn watch_in(matches: &ArgMatches<'_>) -> Result<Invocation, &'static str>
     ensures run { IfOk result (λ run. watch_in (rows_of (found_of matches.now)) ≡ Ok run) }
     ensures refused { IfErr result (λ _. watch_in (rows_of (found_of matches.now)) ≡ Err (ValueValidation ∷ [])) }

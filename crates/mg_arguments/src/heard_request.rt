@@ -10,6 +10,6 @@ pub struct HeardRequest {
     pub file: Option<FilePath>,
     pub printing: Printing,
     pub query: AskedQuery,
-    /// The time that the question is about, or `None` for all intervals.
+    /// The single time that the question is about, or `None` if it asks for intervals.
     pub at: Option<Date>,
 }

@@ -14,7 +14,7 @@ use mg_serve::Setup;
 /// The options of a gateway on sockets, except for its configuration.
 #[derive(Drop)]
 pub struct Service {
-    /// The controllers that may send messages to the gateway.
+    /// The controllers that may send messages to the gateway. If none is listed, anybody may.
     pub controllers: Controllers,
     /// The addresses that the ports are bound to.
     pub bind_addresses: BindAddresses,

@@ -13,7 +13,7 @@ const WORDS: usize = 12;
 
 /// Returns the configuration in a title, or `None` if `title` isn't a title or memory runs out.
 ///
-/// A title consists of the arguments of `mg_bridge replay`, so the command line's parser reads it.
+/// A title is a command of the program (`mg_bridge replay`) with its options, so the command line's parser reads it.
 pub fn titled(alloc: Global, title: &[u8]) -> Option<Config>
     ensures value { IfSome result (λ config. title.now ≡ title_text config) }
 {

@@ -1,4 +1,4 @@
--- Audible intervals and the ticks that they contain.
+-- The intervals in which a talker is audible, and the ticks that they contain.
 use Rattle.std.proofs.Common.{◌≡◌, ℕ, ◌<◌, eqb, not, ◌&&◌, ◌||◌, eqb-true, Bool, true, false, cond, List, [], ◌∷◌, ◌++◌, length, get_or, find, Option, Some, refl, sym, ap, subst, ◌∙◌, inl, inr, arith, length-append}
 use Rattle.std.specs.Prelude.{count_by, filter, reverse, Contains}
 use Rattle.std.specs.List.{AllByRecursion}
@@ -78,7 +78,7 @@ none_at w talker r sound among e =
     (sym (one_port w.rooms sound r s among (at_from_in s w.rooms.terminations i) same))
     (hears_none w talker r.number e))
 
--- ## Packets that are sent to these listeners
+-- ## Packets to listeners that hear nothing of the talker
 
 first_bytes : List Datagram → List ℕ
 first_bytes [] = []

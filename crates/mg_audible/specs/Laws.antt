@@ -1,4 +1,5 @@
--- Statements about each tick of an audible interval.
+-- Statements about the intervals in which a talker is audible, and about the ticks in which a listener is sent
+-- different bytes.
 use Rattle.std.specs.Prelude.{◌≡◌, ◌↔◌, ℕ, ◌==◌, ◌&&◌, ◌||◌, Bool, true, List, ◌∷◌, ◌++◌}
 use Rattle.std.specs.Prelude.{count_by, Any}
 use Rattle.mg_engine.specs.declared.config.Config.{Config}
@@ -16,7 +17,7 @@ use Rattle.mg_heard.specs.Intervals.{Interval}
 use Rattle.mg_heard.specs.Laws.{IsToldAt}
 use Rattle.mg_audible.specs.Audible.{RunsWithout, is_sent_other}
 
--- ## Ticks whose bytes differ
+-- ## Ticks in which the bytes differ
 
 -- Two gateways with this configuration have received these events, but the second gateway has not received the talker's
 -- speech. In the next tick, they send different bytes to this listener.
@@ -27,7 +28,8 @@ Differs config talker listener past =
     × Any (λ r. (r.number ≡ listener) × (is_sent_other whole without r ≡ true))
     whole.gateway.rooms.terminations
 
--- One of the intervals contains a tick for a listener if and only if the bytes of that tick differ.
+-- Some interval of a listener contains a tick if and only if the two gateways send the listener different bytes in that
+-- tick.
 abbrev pub TellsDifferences : Config → ℕ → List Event → List Interval → Type 0
 TellsDifferences config talker events ys =
     (past later : List Event) (listener : ℕ) → events ≡ past ++ Tick ∷ later
@@ -41,14 +43,15 @@ abbrev pub reaches : Gateway → ℕ → ℕ → Bool
 reaches w talker listener =
     flow w talker listener || ((talker == listener) && hears_itself w listener)
 
--- If the bytes of a tick differ, the talker's speech reaches the listener in the world before the tick.
+-- If the two gateways send a listener different bytes in a tick, the talker's speech reaches the listener in the world
+-- before that tick.
 abbrev pub DifferencesAreSpeech : Type 0
 DifferencesAreSpeech =
     (config : Config) (talker listener : ℕ) (past : List Event) (sent : List Sent) (w : World)
     → IsStart config → Differs config talker listener past → Run (start_of config) past sent w
     → reaches w.gateway talker listener ≡ true
 
--- If an interval contains a tick, the talker's speech reaches the listener in the world before the tick.
+-- If an interval contains a tick, the talker's speech reaches the interval's listener in the world before the tick.
 abbrev pub TellsSpeech : Config → ℕ → List Event → List Interval → Type 0
 TellsSpeech config talker events ys =
     (past later : List Event) (listener : ℕ) (sent : List Sent) (w : World)

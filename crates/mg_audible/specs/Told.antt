@@ -1,5 +1,5 @@
--- Everything that is reported to a sink about a talker: when the talker was audible, and the laws about these
--- intervals.
+-- Everything that is reported to a sink about a talker: the intervals in which the talker was audible, for which the
+-- laws hold, and all gaps.
 use Rattle.std.specs.Prelude.{◌≡◌, ℕ, List, [], reverse, All}
 use Rattle.mg_engine.specs.declared.config.Config.{Config}
 use Rattle.mg_core.specs.Note.{Note, events_in}

@@ -18,8 +18,8 @@ use std::alloc::Global;
 /// journal that counts more ticks would take too long.
 const MAX_TICKS: u64 = 4_320_000;
 
-/// Follows when a talker is audible, and reports each interval to a sink when the interval ends. The gateway that runs
-/// the script mixes no packets, so the follower has two gateways of its own.
+/// Follows when a talker is audible, and reports each interval to a sink when the interval or the script ends. The
+/// gateway that runs the script mixes no packets, so the follower has two gateways of its own.
 #[derive(Drop)]
 pub(crate) struct Audible<S: Sink> {
     alloc: Global,

@@ -18,8 +18,8 @@ use std::io::Read;
 /// Runs a script, and reports to a sink when the talker with this number was audible, and to whom, as a series of
 /// intervals. Returns the sink, and whether the script has any RTP datagrams.
 ///
-/// An interval is reported when it ends, so the memory needed does not grow with the script. Two gateways mix all
-/// packets, but send none.
+/// An interval is reported when it ends or when the script ends, so the memory needed does not grow with the script.
+/// Two gateways mix all packets, but send none.
 pub fn hear_talker<R: Read, S: Sink>(
     alloc: Global,
     config: Config,
@@ -68,7 +68,8 @@ fn has_rtp(core: &Core) -> bool
     core.counts().media > 0
 }
 
-/// Returns the reason why a script was not run to its end. `stopped` is the reason why its follower stopped.
+/// Returns the reason why a script was not run to its end. `stopped` is the reason why its follower stopped by itself,
+/// if it did.
 fn fault_of(fault: RunFault, stopped: Option<HeardFault>) -> HeardFault {
     match (fault, stopped) {
         (RunFault::Write, Some(own)) => own,

@@ -37,8 +37,8 @@ fn hear_report<'a, R: Read, W: Write>(
 }
 
 /// Prints when a talker was audible in a script: one line for each interval and each gap that the query selects. The
-/// line for an interval is written when the interval ends. Returns whether the script has any RTP datagrams. Without
-/// RTP datagrams, nothing is audible.
+/// line for an interval is written when the interval or the script ends. Returns whether the script has any RTP
+/// datagrams. Without RTP datagrams, nothing is audible.
 pub fn write_audible<R: Read, W: Write>(
     alloc: Global,
     config: Config,

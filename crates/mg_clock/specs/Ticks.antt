@@ -17,8 +17,8 @@ pub record ClockSeen : Type 0 where
 abbrev pub clock_seen : Option (List ℕ) → Option (List ℕ) → ClockSeen
 clock_seen readings waits = record { readings = readings; waits = waits }
 
--- No tick is due at any of these readings, and after each reading the clock waits until the tick is
--- due.
+-- The tick with this number is not due at any of these readings. After each reading, the clock waits for the time until
+-- the tick is due, unless a message ends the wait earlier.
 abbrev pub WaitsForTick : (tick : ℕ) → (readings waits : List ℕ) → Type 0
 WaitsForTick tick [] [] = Unit {0}
 WaitsForTick tick (t ∷ ts) (d ∷ ds) =
@@ -34,7 +34,8 @@ pub record IsReadEarly (tick count : ℕ) (old new : ClockSeen) : Type 0 where
   pub readings : Appends old.readings new.readings early
   pub slept : Appends old.waits new.waits waits
 
--- The clock was read until the tick was due. The tick was due at the reading `now`, and not at any earlier reading.
+-- The clock was read until the tick was due. The tick was due at the last new reading, `now`, and not at the other new
+-- readings.
 pub record IsReadUntilDue (tick now : ℕ) (old new : ClockSeen) : Type 0 where
   pub count : ℕ
   pub before : Option (List ℕ)
@@ -46,7 +47,7 @@ pub record IsReadUntilDue (tick now : ℕ) (old new : ClockSeen) : Type 0 where
 abbrev pub timing_of : (tick allowed now : ℕ) → Timing
 timing_of tick allowed now = if nat_lt (tick + allowed) (ticks_due now) then Late else OnTime
 
--- A tick begins at the first reading at which it is due.
+-- A tick begins at the first new reading at which it is due.
 pub record BeginsTick (tick allowed : ℕ) (old new : ClockSeen) (timing : Timing) : Type 0 where
   pub now : ℕ
   pub read : IsReadUntilDue tick now old new

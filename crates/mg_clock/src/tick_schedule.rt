@@ -10,8 +10,8 @@ use crate::watch::Watch;
 /// The maximum number of messages that a schedule reports before each tick: one per millisecond.
 const MAX_MESSAGES: u16 = 20;
 
-/// A schedule of ticks, driven by a clock. The k-th tick begins `k * 20 ms` after the clock's start, or at the first
-/// reading of the clock after that.
+/// A schedule of ticks, driven by a clock. The k-th tick is due `k * 20 ms` after the clock's start. It begins at the
+/// first reading, after the previous tick began, at which it is due.
 #[derive(Clone, Copy, Debug, PartialEq, Eq)]
 pub struct TickSchedule {
     /// The number of ticks that have begun.

@@ -23,8 +23,8 @@ pub trait Watch {
         ensures waits { Keeps (waits self.old) (waits self.new) }
         ensures fails { IfErr result (λ failed. Fails self.new) };
 
-    /// Waits for the given time. If the clock can detect messages, the wait ends early when a message arrives. Returns
-    /// whether a message arrived.
+    /// Waits for the given time. If the clock can detect messages, a message can end the wait earlier. Returns whether
+    /// a message arrived.
     fn wait(&mut self, time: Duration) -> bool
         ensures waits { Appends (waits self.old) (waits self.new) (as_nanos time ∷ []) }
         ensures readings { Keeps (readings self.old) (readings self.new) };

@@ -36,8 +36,8 @@ agreement_of (Some expected) date =
     then (if nat_le (date.millis - expected.millis) 1000 then Agrees else JumpedAhead)
     else WentBack
 
--- The timeline after a date. If the date doesn't agree with the ticks before it, the timeline starts again at this
--- date.
+-- The timeline after a date. If the date is the first, or doesn't agree with the ticks before it, the timeline starts
+-- again at this date.
 abbrev pub with_date : Agreement → Date → Timeline → Timeline
 with_date Agrees date t = t
 with_date agreement date t = record { start = Some date; ticks = 0 }

@@ -16,7 +16,7 @@ const LOST: u64 = 50;
 const TICK: u64 = 20;
 
 /// The maximum difference, in milliseconds, between a date and the time computed from the ticks before it. If the
-/// difference is greater, the system's clock was changed, or the ticks were late.
+/// difference is greater, the system's clock was changed, or ticks are missing, late or too fast.
 const TOLERANCE: u64 = 1000;
 
 /// The time at which a journal's next tick is due, as a date and the number of ticks since that date.
@@ -31,8 +31,8 @@ pub struct Timeline {
     pub ticks: u64,
 }
 
-/// Returns how many ticks were missed between `date` and `now`, if `ticks` ticks followed `date`. If the clock has been
-/// set back since then, one second's worth of ticks counts as missed.
+/// Returns how many ticks were missed between `date` and `now`, if `ticks` ticks followed `date`. If these ticks took
+/// longer than the clock says, the clock was set back, and one second's worth of ticks counts as missed.
 fn missed_ticks(date: Date, ticks: u64, now: Date) -> u64
     ensures value { result ≡ missed_ticks date.millis ticks now.millis }
 {

@@ -57,7 +57,7 @@ fn is_zone_name(text: &[u8]) -> bool {
 
 impl Zone {
     /// Finds the zone with this name: `UTC`, an offset such as `+01:00`, or a zone of the system, such as
-    /// `Europe/Berlin`. Returns `None` if no zone has this name, or if the zone's file can't be read.
+    /// `Europe/Berlin`. Returns `None` if no zone has this name, or if the zone's file can't be read or parsed.
     pub fn find<F: Files>(files: &F, alloc: Global, name: &str) -> Option<Zone> {
         if name == "UTC" {
             return Some(Zone::Utc);

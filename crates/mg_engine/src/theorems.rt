@@ -128,7 +128,7 @@ pub fn agreement_lasts()
 /// configuration, terminations, contexts and edits.
 ///
 /// Take two gateways that differ only in what some terminations received, and a listener that hears none of these
-/// terminations. In a tick, both gateways send this listener the same packet, byte for byte.
+/// terminations. In a tick, both gateways send this listener the same packet, byte for byte, or none.
 pub fn packets_depend_on_heard()
     ensures theorem { PacketsDependOnHeard }
     ensures packets { SamePackets }

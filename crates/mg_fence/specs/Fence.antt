@@ -4,9 +4,9 @@ use Rattle.std.specs.Prelude.{unwrap_or}
 use Rattle.std.specs.Str.{bytes_eq}
 use Rattle.mg_fence.specs.declared.fence.Fence.{Fence}
 
--- Whether a message passes. Without a fence, each message does. With a fence, the message's number must be at least the
--- highest number so far. A message without a number passes a strict fence only if it is one that `mg_bridge check`
--- sends: an audit of ROOT, or the acknowledgement of the audit's reply.
+-- Whether a message passes. Without a fence, each message does. With a fence, a message's number must be at least the
+-- number that the fence has reached. A message without a number passes, too. But it passes a strict fence only if it is
+-- one that `mg_bridge check` sends: an audit of ROOT, or the acknowledgement of the audit's reply.
 abbrev pub passes : Option Fence → List ℕ → (number : Option ℕ) → Bool
 passes None bytes number = true
 passes (Some fence) bytes (Some number) = nat_le fence.reached number

@@ -1,4 +1,5 @@
--- The number that a journal has reached. The fence of a resumed gateway starts with this number.
+-- The number that a journal has reached. The fence of a resumed gateway starts with this number, unless an operator
+-- sets it.
 use Rattle.std.specs.Prelude.{◌≡◌, ℕ, max, List, [], ◌∷◌, codes, take, drop, Option, None, unwrap_or}
 use Rattle.std.specs.Prelude.{if◌then◌else◌}
 use Rattle.std.specs.Str.{bytes_eq}

@@ -2,13 +2,14 @@ ghost use Rattle.std.specs.Prelude.{◌≡◌, ◌||◌, codes, Some};
 ghost use Rattle.std.specs.Str.{bytes_eq};
 ghost use Rattle.mg_fence.specs.Fence.{passes, raised_by};
 
-/// The message that `mg_bridge check` sends: an audit of ROOT in the null context (RFC 3525, section 7.2.5).
+/// The heartbeat that `mg_bridge check` sends: an audit of ROOT in the null context (RFC 3525, section 7.2.5).
 pub const HEARTBEAT: &[u8] = b"MEGACO/1 <check>\nTransaction=1{Context=-{AuditValue=ROOT}}";
 
 /// The message that acknowledges the heartbeat's reply, so that the gateway does not keep it.
 pub const ACKNOWLEDGEMENT: &[u8] = b"MEGACO/1 <check>\nTransactionResponseAck{1}";
 
-/// A fence against messages whose number is below `reached`, the highest number so far.
+/// A fence against messages whose number is below `reached`: the number at which the fence began, or a higher number of
+/// a message that was run since.
 #[derive(Clone, Copy, Debug, PartialEq, Eq)]
 pub struct Fence {
     pub reached: u32,

@@ -7,8 +7,8 @@ use mg_core::{Core, Event, Follower, Stopped};
 use mg_words::number_of;
 use std::alloc::Global;
 
-/// Reads the number that a journal has reached: the number that an operator set last, or a higher number of a message
-/// since then. Stops if memory runs out.
+/// Reads the number that a journal has reached: the number to which an operator set the fence last (0 if none did), or
+/// a higher number of a message since then. Stops if memory runs out.
 #[derive(Drop)]
 pub struct FenceReader {
     alloc: Global,

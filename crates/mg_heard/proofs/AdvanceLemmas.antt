@@ -99,7 +99,7 @@ unfolding since
 since_none [] x e = refl
 since_none (flows ∷ older) x e = rw e (omega arith)
 
--- A stored interval began when its flow became open.
+-- A stored interval began at the tick since which its flow has been open.
 began_since : (past : List (List OpenFlow)) (old : List OpenInterval) (y : OpenInterval) →
     map still_open old ≡ lasting past → In y old → y.first.tick ≡ since past y.flow
 began_since past old y h i =

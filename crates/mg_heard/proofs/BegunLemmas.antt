@@ -1,4 +1,4 @@
--- The stored intervals began before the next tick, or at the next tick.
+-- The stored intervals began at or before the next tick.
 use Rattle.std.proofs.Common.{◌≡◌, ℕ, ◌+◌, Bool, true, false, cond, List, [], ◌∷◌, map, Option, Some, None, IfSome}
 use Rattle.std.specs.Prelude.{find}
 use Rattle.std.specs.List.{AllByRecursion}

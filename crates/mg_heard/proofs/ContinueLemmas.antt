@@ -47,7 +47,7 @@ rest_more : (old new : List OpenInterval) (place : ℕ) (d : OpenInterval) → p
     drop place new ≡ drop place old → drop (place + 1) new ≡ drop (place + 1) old
 rest_more old new place d a b e = let both = rest_both old new place d a b e in cc both
 
--- The flow at `place` comes after the first `from` pairs of `other`.
+-- The pair at `place` comes after the first `from` pairs of `other`.
 pub before_next : (other old new : List OpenInterval) (from place : ℕ) (d : OpenInterval) → length new ≡ length old →
     place < length new → drop place new ≡ drop place old → HasPassed other old from place →
     AreBefore (get_or new place d).flow (take from other)

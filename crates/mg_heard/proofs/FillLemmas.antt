@@ -54,7 +54,7 @@ heard_few l hs k =
     map-append (λ h. h.seated) (take k hs) (drop k hs)) ∙ heard_both l front back in
     omega (arith, ap length whole, length-append (flows_heard front l) (flows_heard back l))
 
--- The first places have an interval for each flow from the first `i` terminations to `l`.
+-- `stored` has the intervals of `start`, and then one for each flow from the first `i` terminations to `l`.
 pub record HasPushed (l : Hearer) (first : Moment) (start stored : List OpenInterval) (hs : List Hearer) (i : ℕ)
     : Type 0 where
   pub is : stored ≡ start ++ map (beginning_at first) (flows_heard (seats_of (take i hs)) l)
@@ -87,7 +87,7 @@ pushed_one l first start stored new hs i h x there is e same put p =
           (sym (heard_more l hs i h true there is e));
     }
 
--- If the flows to `l` fit within the limit, there is a place for one more interval.
+-- If `start` and the flows to `l` fit within the limit, there is a place for the flow to `l` from the next termination.
 pub has_place : (l : Hearer) (first : Moment) (start stored : List OpenInterval) (hs : List Hearer) (i limit : ℕ)
     (h : Hearer) → i < length hs → get_or hs i h ≡ h → is_heard l h.seated ≡ true →
     length start + length (flows_heard (seats_of hs) l) ≤ limit →

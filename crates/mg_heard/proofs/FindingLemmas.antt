@@ -50,7 +50,8 @@ gap_more time (entries.Gap gap ∷ xs) x = first_more (is_in_gap gap time) gap
     (gap_at time (xs ++ x ∷ [])) (gap_at time xs) (gap_at time (x ∷ [])) (gap_more time xs x)
 gap_more time (entries.Audible y ∷ xs) x = gap_more time xs x
 
--- After one more entry, `HasFound` still holds.
+-- After one more entry, `HasFound` still holds if the sink stores a match in this entry, unless it had found one
+-- before.
 found_more : (start old : Instant) (before : List Entry) (x : Entry) (heard : Option Interval) (gap : Option Gap) →
     heard ≡ option_or old.heard (heard_at old.query old.time (x ∷ [])) →
     gap ≡ option_or old.gap (gap_at old.time (x ∷ [])) → HasFound start old before →

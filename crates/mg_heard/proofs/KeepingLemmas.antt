@@ -151,7 +151,7 @@ tells_same equal past flows stored Told e h =
       told = h.told;
     }
 
--- After one more moment, `TellsPast` holds if the intervals that ended are reported.
+-- After one more moment, `TellsPast` still holds if the intervals that ended are reported.
 pub tells_ended : (past : List (List OpenFlow)) (flows : List OpenFlow) (now : Moment)
     (stored new over : List OpenInterval) (Told ToldNext : List Entry → Type 0) →
     AreLasting (flows ∷ past) new → map (ended_at now.tick) over ≡ ending past flows →
@@ -168,7 +168,7 @@ tells_ended past flows now stored new over Told ToldNext lasts ends tells h = re
   told = tells h.xs h.told;
 }
 
--- After one more moment, `TellsPast` holds unless the sink refuses an interval.
+-- After one more moment, `TellsPast` still holds unless the sink refuses an interval.
 pub tells_ended_on : {E : Type 0} (past : List (List OpenFlow)) (flows : List OpenFlow) (now : Moment)
     (stored new over : List OpenInterval) (Told ToldNext : List Entry → Type 0) (result : Result (Unit {0}) E) →
     AreLasting (flows ∷ past) new → map (ended_at now.tick) over ≡ ending past flows →

@@ -234,7 +234,7 @@ advances_found first old rows hs now j k h d y z own up there within is a below 
           ∙ ap (λ (r : ListenerRow). number_of r.listener) (get_or_default first k d e below))))));
     }
 
--- If the next listener has no earlier row, its new row begins at this moment.
+-- If the next listener has no earlier row, all intervals of its new row begin at this moment.
 pub advances_new : (first old rows : List ListenerRow) (hs : List Hearer) (now : Moment) (j : ℕ) (h : Hearer)
     (y : ListenerRow) → AreRows first → j < length hs → j < length rows → get_or hs j h ≡ h →
     Advances first old rows hs now j → ((k : ℕ) (d : ListenerRow) → k < length old →
@@ -355,7 +355,7 @@ all_ended first old rows hs now j own past a =
 
 -- ## Preconditions of the steps
 
--- The earlier row of the next listener is in order.
+-- The intervals of an earlier row are in order.
 pub earlier_rising : (first : List ListenerRow) (r : ListenerRow) (k : ℕ) (d : ListenerRow) → AreRows first →
     k < length first → r ≡ get_or first k d → IsRising r.row
 earlier_rising first r k d own below at = subst (λ (r : ListenerRow). IsRising r.row) (sym at)

@@ -112,7 +112,8 @@ is_run past y h = elim (in_cases y (ended past) (lasting past) h) [
 same_interval : (y z : Interval) → y.flow ≡ z.flow → y.first ≡ z.first → y.end ≡ z.end → y ≡ z
 same_interval y z a b c = λ i. record { flow = a i; first = b i; end = c i }
 
--- If a flow has been open from `first` up to the beginning of its maximal interval, the interval begins at `first`.
+-- If the flow of a maximal interval has been open from `first` up to the interval's beginning, the interval begins at
+-- `first`.
 same_first : (past : List (List OpenFlow)) (y : Interval) (x : OpenFlow) (first : ℕ) → IsRun past y → y.flow ≡ x →
     first ≤ y.first → ((k : ℕ) → first ≤ k → k < y.first → IsOpen past k x) → y.first ≡ first
 same_first past y x first h e under opens = elim (cases_lt first y.first) [

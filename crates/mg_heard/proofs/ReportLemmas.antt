@@ -41,7 +41,7 @@ filter_more q (y ∷ xs) x = cond_first (q y) y (filter q (xs ++ x ∷ [])) (fil
 only_one : (q : Entry → Bool) (x : Entry) (b : Bool) → q x ≡ b → filter q (x ∷ []) ≡ cond b (x ∷ []) []
 only_one q x b e = ap (λ (b : Bool). cond b (x ∷ []) []) e
 
--- If the query selects an entry and its line is written, `HasReported` holds with that entry.
+-- If the query selects an entry and its line is written, `HasReported` still holds with that entry.
 pub reported_more : (start old : Reported) (before : List Entry) (x : Entry) (line : List ℕ) (new : Option (List ℕ)) →
     selects_entry old.query x ≡ true → IsLine old.style x line → Appends old.written new line →
     HasReported start old before → HasReported start (record old { written = new }) (before ++ x ∷ [])
@@ -62,7 +62,7 @@ reported_more start old before x line new asked is writes h =
       );
     }
 
--- If the query doesn't select an entry, `HasReported` holds with that entry and nothing is written.
+-- If the query doesn't select an entry, `HasReported` still holds with that entry, although nothing is written.
 pub reported_same : (start old : Reported) (before : List Entry) (x : Entry) → selects_entry old.query x ≡ false →
     HasReported start old before → HasReported start old (before ++ x ∷ [])
 reported_same start old before x other h =
@@ -77,7 +77,7 @@ reported_same start old before x other h =
       lines = (text, subst (λ (l : List Entry). AreLines start.style l text) (sym all) lines, wrote);
     }
 
--- If the query selects an entry, `HasReported` holds with that entry, unless the writer fails.
+-- If the query selects an entry, `HasReported` still holds with that entry, unless the writer fails.
 pub reported_more_on : {E : Type 0} (start old : Reported) (before : List Entry) (x : Entry) (new : Option (List ℕ))
     (result : Result (Unit {0}) E) → selects_entry old.query x ≡ true →
     OnOk result ((line : List ℕ) × IsLine old.style x line × Appends old.written new line) →

@@ -109,7 +109,7 @@ found_behind : (x y : OpenInterval) (xs : List OpenInterval) (b : Bool) → is_s
 found_behind x y xs true e less h = let k = ap key_of ((same x.flow y.flow).0 e) in absurd (omega arith)
 found_behind x y xs false e less h = h
 
--- Searching for an interval's flow finds that interval.
+-- If intervals are in order, a search for the flow of one of them finds that interval.
 finds_itself : (x : OpenInterval) (xs : List OpenInterval) → Pairs (λ x later. key_of x.flow < key_of later.flow) xs →
     In x xs → find (λ y. is_same x.flow y.flow) xs ≡ Some x
 finds_itself x [] up i = absurd i
@@ -127,7 +127,7 @@ continues_itself now all (x ∷ xs) h =
     (option_map (λ z. z.first) o) (beginning_at now x.flow)) (h x (inl refl)) in
     λ i. first i ∷ continues_itself now all xs (λ y j. h y (inr j)) i
 
--- If all flows of a row stay open, the row is unchanged.
+-- If the flows of a row stay the same, the row is unchanged.
 pub row_stays : (now : Moment) (xs : List OpenInterval) (fs : List OpenFlow) → IsRising xs → flows_of xs ≡ fs →
     map (continued xs) (map (beginning_at now) fs) ≡ xs
 row_stays now xs fs up is =

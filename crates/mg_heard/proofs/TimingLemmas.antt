@@ -349,7 +349,7 @@ timed_intervals older tick told xs stored none each begun h = record {
       (All-weaker (λ x. IsBefore older tick x.first) (λ x. HasMoments (IsBefore older tick) (told x)) each stored begun));
 }
 
--- After more entries with the right gaps and dates are reported, `Timed` holds, unless the sink refuses an entry.
+-- After more entries with the right gaps and dates are reported, `Timed` still holds, unless the sink refuses an entry.
 pub timed_on : {E : Type 0} (older next : List Note) (tick later : ℕ) (Told ToldNext : List Entry → Type 0)
     (more : List Entry) (result : Result (Unit {0}) E) →
     ((before : List Entry) → Told before → OnOk result (ToldNext (before ++ more))) →
@@ -359,13 +359,13 @@ timed_on older next tick later Told ToldNext more (Ok done) tells timed before (
     (tells before told, timed before h)
 timed_on older next tick later Told ToldNext more (Err error) tells timed before h = tt
 
--- If the clock was set, there is a gap.
+-- If the clock went back or jumped ahead, there is a gap.
 pub jump : (agreement : Agreement) (first end : Moment) → (agreement ≡ WentBack) ⊎ (agreement ≡ JumpedAhead) →
     Some (record { first = first; end = end; fence = None }) ≡ gap_if (is_jump agreement) first end
 jump agreement first end (inl is) = sym (ap (λ (a : Agreement). gap_if (is_jump a) first end) is)
 jump agreement first end (inr is) = sym (ap (λ (a : Agreement). gap_if (is_jump a) first end) is)
 
--- If the clock wasn't set, there is no gap.
+-- If a date is the first, or agrees with the expected date, there is no gap.
 pub no_jump : (agreement : Agreement) (first end : Moment) → (agreement ≡ First) ⊎ (agreement ≡ Agrees) →
     None ≡ gap_if (is_jump agreement) first end
 no_jump agreement first end (inl is) = sym (ap (λ (a : Agreement). gap_if (is_jump a) first end) is)

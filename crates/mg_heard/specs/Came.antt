@@ -16,7 +16,7 @@ abbrev pub has_asked : Option (List PartyName) → Gateway → Bool
 has_asked keys w = list_any (λ r. is_asked keys r.number
     (option_map (λ c. record { address = c.address; port = c.port }) r.remote)) w.rooms.terminations
 
--- At some point during these events, the gateway has such a termination.
+-- At some point during these events, the gateway has a termination that a question with these keys asks about.
 abbrev pub HasCome : Config → List Event → Option (List PartyName) → Type 0
 HasCome config events keys = (past : List Event) × (future : List Event) × (sent : List Sent) × (w : World)
     × (events ≡ past ++ future) × Run (start_of config) past sent w × (has_asked keys w.gateway ≡ true)

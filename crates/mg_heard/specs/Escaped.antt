@@ -2,7 +2,7 @@
 use Rattle.std.specs.Prelude.{ℕ, ◌==◌, ◌||◌, nat_lt, List, [], ◌∷◌, codes, if◌then◌else◌}
 use Rattle.std.specs.List.{flat_map}
 
--- The escaped form of a byte. A page has no control characters, so U+FFFD replaces them.
+-- The escaped form of a byte. U+FFFD replaces ASCII control characters.
 abbrev pub escaped_byte : ℕ → List ℕ
 escaped_byte b =
     if b == 38 then codes "&amp;" else (if b == 60 then codes "&lt;"

@@ -12,7 +12,8 @@ pub record Interval : Type 0 where
   pub first : ℕ
   pub end : Option ℕ
 
--- The tick since which a flow has been open: the tick after the newest moment without the flow.
+-- The tick since which a flow has been open: one tick after that of the newest moment without the flow, or tick 0 if
+-- each moment has the flow.
 unfoldable pub since : List (List OpenFlow) → OpenFlow → ℕ
 since [] x = 0
 since (flows ∷ older) x = if has flows x then since older x else length older + 1

@@ -13,8 +13,9 @@ IsOpenAt moments tick x = Contains (slice_index_or moments tick []) x
 abbrev pub LiesIn : ℕ → Interval → Type 0
 LiesIn tick y = (y.first ≤ tick) × IfSome y.end (λ end. tick < end)
 
--- The interval has a first tick, and its flow is open before each of its ticks. It can't be extended: the flow is not
--- open before the preceding tick. If the interval has an end, the flow is not open before the tick at the end either.
+-- The interval contains at least one tick, and its flow is open before each of its ticks. It can't be extended: the
+-- flow is not open before the preceding tick. If the interval has an end, the flow is not open before the tick at the
+-- end either.
 pub record IsTrueAndMaximal (moments : List (List OpenFlow)) (y : Interval) : Type 0 where
   pub some : (y.first < length moments) × LiesIn y.first y
   pub throughout : (tick : ℕ) → tick < length moments → LiesIn tick y

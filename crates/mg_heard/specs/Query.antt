@@ -19,7 +19,7 @@ use Rattle.mg_heard.specs.declared.party_name.PartyName.{PartyName}
 use Rattle.mg_heard.specs.declared.party_name.PartyName.TheVariants.{Termination, Address, Remote}
 use Rattle.mg_heard.specs.declared.query.Query.{Query}
 
--- The key that `text` gives: `RTP/7`, an address and a port, or an address.
+-- The key that `text` gives: a termination such as `RTP/7`, an address and a port, or an address.
 abbrev pub party_name_of : List ℕ → Option PartyName
 party_name_of text =
     if starts_with nat_eq text (codes "RTP/") then option_map Termination (number_of (drop 4 text))
@@ -42,8 +42,8 @@ is_named (Remote remote) number at = option_map_or (λ peer. is_same_peer peer r
 abbrev pub is_asked : Option (List PartyName) → ℕ → Option Peer → Bool
 is_asked keys number at = option_map_or (list_any (λ k. is_named k number at)) keys true
 
--- The next three definitions compare a moment with a time: it is before the time, before or at it, or after it. For a
--- moment without a date, the result is `unknown`.
+-- The next three definitions say whether a moment is before a time, at or before it, or after it. For a moment without
+-- a date, the result is `unknown`.
 abbrev pub is_before : (unknown : Bool) → Moment → Date → Bool
 is_before unknown m time = option_map_or (λ date. nat_lt date.millis time.millis) m.date unknown
 
@@ -71,8 +71,8 @@ abbrev pub covers : Interval → Date → Bool
 covers x time =
     is_past true x.first time && option_map_or (λ end. is_future false end time) x.end true
 
--- Whether the query selects an entry. A gap is selected by its time alone. If the clock was set back, that is the time
--- that it showed twice.
+-- Whether the query selects an entry. A gap is selected by its time alone. If the clock was set back, this is the time
+-- that the clock showed twice.
 abbrev pub selects_entry : Query → Entry → Bool
 selects_entry q (entries.Interval x) = selects q x
 selects_entry q (entries.Gap gap) =

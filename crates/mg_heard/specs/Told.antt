@@ -20,7 +20,7 @@ without_dates x = record {
   end = option_map (λ m. m.tick) x.end;
 }
 
--- The intervals among the entries in which a talker could be heard, in order.
+-- Among the entries, the intervals in which a talker could be heard, in order.
 abbrev pub heard_in : List Entry → List DatedInterval
 heard_in [] = []
 heard_in (entries.Interval x ∷ xs) = x ∷ heard_in xs
@@ -29,7 +29,7 @@ heard_in (_ ∷ xs) = heard_in xs
 abbrev pub intervals_in : List Entry → List Interval
 intervals_in xs = map without_dates (heard_in xs)
 
--- The intervals among the entries in which a talker was audible, in order, without their dates.
+-- Among the entries, the intervals in which a talker was audible, in order, without their dates.
 abbrev pub audible_in : List Entry → List Interval
 audible_in [] = []
 audible_in (entries.Audible x ∷ xs) = without_dates x ∷ audible_in xs

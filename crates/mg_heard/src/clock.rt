@@ -26,11 +26,11 @@ const TITLE: &[u8] = b"# mg_bridge ";
 #[derive(Drop)]
 pub struct Clock {
     pub timeline: Timeline,
-    /// The moment of the first date.
+    /// The moment of the first date, or `None` before the first date.
     pub first: Option<Moment>,
     /// The number of ticks so far. This is also the index of the next tick, because ticks are counted from 0.
     pub ticks: u64,
-    /// The first title.
+    /// The first title of at most [`TITLE_LIMIT`] bytes.
     title: ArrayVec<u8, TITLE_LIMIT>,
 }
 
@@ -164,8 +164,8 @@ impl Clock {
         }
     }
 
-    /// Checks the title in a comment that has no date and no missed ticks. If the comment says that an operator set the
-    /// fence, returns this moment as a gap.
+    /// Checks the title, if there is one, in a comment that has no date and no missed ticks. If the comment says that
+    /// an operator set the fence, returns this moment as a gap.
     fn pass_other(&mut self, number: u64, line: &[u8]) -> Result<Option<Gap>, ClockFault>
         ensures ticks { self.new.ticks ≡ self.old.ticks }
         ensures same { (older : List Note) → IsClock older self.old → IsClock older self.new }
@@ -190,7 +190,8 @@ impl Clock {
         })
     }
 
-    /// Stores the first title, and fails if a later title differs from it. Any other line changes nothing.
+    /// Stores the first title of at most [`TITLE_LIMIT`] bytes, and fails if a later title differs from it. A line
+    /// without a title changes nothing.
     fn pass_title(&mut self, number: u64, line: &[u8]) -> Result<(), ClockFault>
         ensures ticks { self.new.ticks ≡ self.old.ticks }
         ensures same { (older : List Note) → IsClock older self.old → IsClock older self.new }

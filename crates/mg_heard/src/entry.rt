@@ -1,7 +1,7 @@
 use crate::gap::Gap;
 use crate::interval::Interval;
 
-/// An entry that a sink receives: an interval when it ends, or a gap when it begins.
+/// An entry that a sink receives: an interval when it ends or when the script ends, or a gap when it begins.
 #[derive(Clone, Copy, Debug, PartialEq, Eq)]
 pub enum Entry {
     /// The listener could hear the talker.

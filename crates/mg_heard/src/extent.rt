@@ -7,7 +7,7 @@ use mg_dates::Date;
 /// The time that a script covers.
 #[derive(Clone, Copy, Debug, PartialEq, Eq)]
 pub struct Extent {
-    /// The first tick whose time is known.
+    /// The first tick whose time is known, or `None` if the script has no date.
     pub first: Option<Moment>,
     /// The tick that follows the last tick of the script.
     pub end: Moment,

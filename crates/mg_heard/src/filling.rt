@@ -14,7 +14,7 @@ use crate::open_interval::OpenInterval;
 use mg_core::{Core, TERMINATIONS};
 use mg_words::MEMBERS;
 
-/// The maximum number of open flows: each termination hears at most [`MEMBERS`] others.
+/// An upper limit for the number of open flows: each termination hears at most [`MEMBERS`] others.
 pub(crate) const FLOWS: usize = TERMINATIONS * MEMBERS;
 
 /// Fills the first places with an interval for each flow that is open in a core. Returns how many intervals were
@@ -34,7 +34,8 @@ pub(crate) fn fill_places(places: &mut [OpenInterval], core: &Core, first: Momen
     count
 }
 
-/// Stores an interval for each flow to a listener, after the places in use. Returns how many places are then in use.
+/// Stores an interval for each flow to a listener, after the `count` places in use, as long as there are places.
+/// Returns how many places are then in use.
 pub(crate) fn push_flows(
     places: &mut [OpenInterval],
     mut count: usize,

@@ -7,6 +7,6 @@ pub enum Format {
     Csv,
     /// One JSON object per line.
     Json,
-    /// The rows of an HTML table that isn't closed, one per line. Answers and violations are sentences.
+    /// An HTML table that isn't closed, with one row per line. Answers and violations are sentences.
     Page,
 }

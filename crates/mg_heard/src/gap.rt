@@ -4,7 +4,8 @@ ghost use Rattle.mg_heard.specs.Verdict.{is_between, is_in_gap};
 use crate::moment::Moment;
 use mg_dates::Date;
 
-/// A period in which the gateway did not run, or for which the script has no ticks.
+/// A period in which the gateway did not run or for which the script has no ticks, or the moment at which an operator
+/// set the fence.
 ///
 /// If the gateway was restarted, its script has the ticks that were missed. If the clock was set, the script has no
 /// ticks between `first` and `end`, and if the clock was set back, `end` has the earlier date. If an operator set the

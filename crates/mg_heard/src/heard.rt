@@ -23,7 +23,7 @@ use crate::theorems::intervals_tell_the_flow;
 use mg_core::{Core, Event, Follower, Stopped};
 use std::alloc::{AllocError, Global};
 
-/// Follows who can hear whom, and reports each interval to a sink when the interval ends.
+/// Follows who can hear whom, and reports each interval to a sink when the interval or the script ends.
 #[derive(Drop)]
 pub(crate) struct Heard<S: Sink> {
     pub(crate) sink: S,
@@ -93,7 +93,8 @@ impl<S: Sink> Heard<S> {
         tell_rows(self.ended.as_slice(), Some(now), &mut self.sink)
     }
 
-    /// Reports the intervals that have not ended at the end of a script. `core` is the gateway's state at that point.
+    /// At the end of a script, reports the intervals that end there and those that have no end. `core` is the gateway's
+    /// state at that point.
     pub(crate) fn finish(&mut self, core: &Core) -> Result<(), Stopped>
         ensures value { (start : S) (config : Config) (notes : List Note) → HasRun config notes core.now.state →
             KeepsHeard config notes self.old.clock self.old.is_changed self.old.open (S.told start self.old.sink) →

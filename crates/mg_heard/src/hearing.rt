@@ -27,7 +27,8 @@ use std::io::Read;
 /// Runs a script, and reports to a sink who could hear whom, as a series of intervals. Returns the sink, the time that
 /// the script covers, and who is missing. `roll` must be new.
 ///
-/// An interval is reported when it ends, so the memory needed does not grow with the script. No packets are sent.
+/// An interval is reported when it ends or when the script ends, so the memory needed does not grow with the script. No
+/// packets are sent.
 pub fn hear<R: Read, S: Sink>(
     alloc: Global,
     config: Config,
@@ -82,7 +83,8 @@ where
     }
 }
 
-/// Returns the reason why a script was not run to its end, given the reason why its follower stopped.
+/// Returns the reason why a script was not run to its end, given the fault of the run and, if the follower stopped by
+/// itself, the reason for that.
 pub(crate) fn fault_of(fault: RunFault, stopped: Option<ClockFault>) -> HeardFault
     ensures run { (run : RunFault) → result ≡ HeardFault.Run run → fault ≡ run }
 {

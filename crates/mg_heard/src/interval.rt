@@ -2,7 +2,8 @@ use crate::moment::Moment;
 use crate::open_flow::OpenFlow;
 
 /// A period in which a talker's speech flowed to a listener: before each tick from `first` on, up to but not including
-/// `end`. The definitions (`specs/Intervals.antt`) leave out the dates.
+/// `end`. In an `Audible` entry, it is a period in which the listener heard the talker. The definitions
+/// (`specs/Intervals.antt`) leave out the dates.
 #[derive(Clone, Copy, Debug, PartialEq, Eq)]
 pub struct Interval {
     pub flow: OpenFlow,

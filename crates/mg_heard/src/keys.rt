@@ -49,7 +49,7 @@ pub(crate) fn copy_of(alloc: Global, keys: &Option<Keys>) -> Result<Option<Keys>
     }
 }
 
-/// Returns the keys of the lines with this name. Fails if no line has this name.
+/// Returns the keys of the lines with this name. Fails if no line has this name, or if an allocation fails.
 fn keys_named(alloc: Global, name: &Name, names: &Names) -> Result<Option<Keys>, NameFault>
     ensures value { IfOk result (AreKeys names.now (Some (asks.Name name.now))) }
 {
@@ -65,7 +65,7 @@ fn keys_named(alloc: Global, name: &Name, names: &Names) -> Result<Option<Keys>,
 }
 
 /// Returns the keys that a question asks about, or `None` for any termination. Fails if no line has the name that the
-/// question gives.
+/// question gives, or if an allocation fails.
 pub(crate) fn keys_for(
     alloc: Global,
     asked: &Option<Asked>,

@@ -1,7 +1,7 @@
 //! Who could hear whom, and when: the intervals in which a talker's speech flowed to a listener.
 //!
 //! [`hear`] runs a script, such as a journal or a recording, and reports each interval to a [`Sink`] when the interval
-//! ends:
+//! or the script ends:
 //!
 //! ```rust
 //! let (sink, extent, missing) = hear(alloc, config, &mut input, sink, roll)?;
@@ -15,10 +15,11 @@
 //! lines, an [`AskedQuery`] becomes a [`Query`], which has keys in place of names. Reports also show the names of
 //! terminations.
 //!
-//! An interval contains a tick for a pair if and only if the talker's speech flows to the listener in the world before
+//! Some interval of a pair contains a tick if and only if the talker's speech flows to the listener in the world before
 //! that tick (`specs/Laws.antt`). The intervals follow from the flows that are open before each tick
-//! (`specs/Intervals.antt`). The intervals that have not ended are stored, and compared with the flows before the next
-//! tick. Each listener has a row of intervals, and a row is compared only if its flows may have changed.
+//! (`specs/Intervals.antt`). The intervals that have not ended are stored, and compared with the flows that are open
+//! before the next tick. Each listener has a row of intervals, and a row is compared only if its flows may have
+//! changed.
 //!
 //! Dates and gaps come from the script's comments (`specs/Times.antt`).
 #![tactic(auto)]

@@ -19,7 +19,8 @@ pub enum PartyName {
 }
 
 impl PartyName {
-    /// Parses `RTP/7`, an IPv4 address, or an IPv4 address with a port. Returns `None` if the text is anything else.
+    /// Parses a termination such as `RTP/7`, an IPv4 address, or an IPv4 address with a port. Returns `None` if the
+    /// text is anything else.
     pub fn of(text: &[u8]) -> Option<PartyName>
         ensures value { result ≡ party_name_of text.now }
     {

@@ -16,9 +16,9 @@ pub struct Query {
     pub listener: Option<Keys>,
     /// The talker, or `None` for any talker.
     pub talker: Option<Keys>,
-    /// Leaves out intervals and gaps that end at this time or earlier.
+    /// Leaves out intervals and gaps that are known to end at this time or earlier.
     pub from: Option<Date>,
-    /// Leaves out intervals and gaps that begin at this time or later.
+    /// Leaves out intervals and gaps that are known to begin at this time or later.
     pub until: Option<Date>,
 }
 
@@ -73,7 +73,7 @@ fn begins_before_until(first: Moment, until: Option<Date>) -> bool
 }
 
 impl Query {
-    /// Returns a query that selects all intervals.
+    /// Returns a query that selects all intervals and gaps.
     pub fn all() -> Query
         ensures value { result ≡ record { listener = None; talker = None; from = None; until = None } }
     {
@@ -92,8 +92,8 @@ impl Query {
         lasts_beyond_from(end, self.from) && begins_before_until(first, self.until)
     }
 
-    /// Returns whether the query selects an entry. A gap is selected by its time alone. If the clock was set back, that
-    /// is the time that it showed twice.
+    /// Returns whether the query selects an entry. A gap is selected by its time alone. If the clock was set back, this
+    /// is the time that the clock showed twice.
     pub fn selects_entry(&self, entry: &Entry) -> bool
         ensures value { result ≡ selects_entry self.now entry.now }
     {

@@ -62,7 +62,7 @@ impl Roll {
         Roll::of(alloc, &query.talker, &query.listener)
     }
 
-    /// Records which terminations the gateway has.
+    /// If the gateway has the talker or the listener, records that it isn't missing.
     fn call(&mut self, core: &Core)
         ensures value { (w : World) → StandsFor core.now.state w → self.new ≡ called w.gateway self.old }
     {
@@ -74,7 +74,7 @@ impl Roll {
     }
 }
 
-/// Records in each roll which terminations the gateway has.
+/// Updates each roll for the terminations that the gateway has.
 pub(crate) fn call_all(rolls: &mut [Roll], core: &Core)
     ensures value { (w : World) → StandsFor core.now.state w → rolls.new ≡ map (called w.gateway) rolls.old }
 {
@@ -83,7 +83,7 @@ pub(crate) fn call_all(rolls: &mut [Roll], core: &Core)
     }
 }
 
-/// Records in each roll which terminations the gateway has after an event, unless the event can't change them.
+/// Updates each roll for the terminations that the gateway has after an event, unless the event can't change them.
 pub(crate) fn call_after(rolls: &mut [Roll], event: &Event, core: &Core)
     ensures value { (start : List Called) (config : Config) (notes : List Note) →
         AreCalled config (events_in notes) start rolls.old →
@@ -109,7 +109,7 @@ pub(crate) fn rolls_of(alloc: Global, rules: &[Rule]) -> Result<Vec<Roll>, Alloc
     Ok(rolls)
 }
 
-/// Returns who is missing according to a single roll.
+/// Returns who is missing according to the only roll, or nobody if there isn't exactly one roll.
 pub(crate) fn missing_in(rolls: &[Roll]) -> Missing
     ensures value { (roll : Called) → rolls.now ≡ roll ∷ [] → result ≡ roll.missing }
 {

@@ -12,7 +12,7 @@ use mg_core::TERMINATIONS;
 use std::alloc::{AllocError, Global};
 use std::marker::Model;
 
-/// Listeners with their intervals, in order of their numbers.
+/// Listeners with their intervals, in order of the listeners' numbers.
 #[derive(Drop)]
 pub(crate) struct Rows {
     /// A place for each possible listener. The first `len` places are in use.

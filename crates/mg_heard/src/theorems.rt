@@ -32,7 +32,7 @@ pub fn intervals_are_unique()
     mg_core::theorems::outcomes_are_unique();
 }
 
-/// An interval of a pair contains a tick if and only if the talker's speech flows to the listener in the world before
+/// Some interval of a pair contains a tick if and only if the talker's speech flows to the listener in the world before
 /// that tick. The interval's context and Remotes are also right in that world.
 pub fn intervals_tell_the_flow()
     ensures flow { (config : Config) (events : List Event) (ys : List Interval) →

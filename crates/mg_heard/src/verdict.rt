@@ -11,8 +11,8 @@ pub enum Verdict {
     /// The answer is yes, as shown by the first interval that the query selects and that contains the time.
     CouldHear(Interval),
     CouldNotHear,
-    /// The time is before the script's first date, at or after the script's end, or in a gap, or the gateway never had
-    /// the listener or the talker.
+    /// The script has no date; or the time is before its first date, at or after its end, or in a gap; or the gateway
+    /// never had the listener or the talker.
     Unknown,
 }
 

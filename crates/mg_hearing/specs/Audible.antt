@@ -11,8 +11,8 @@ use Rattle.mg_audible.specs.Told.{TellsAudible}
 use Rattle.mg_host.specs.declared.host_call.HostCall.{HostCall}
 use Rattle.mg_host.specs.HostCalls.{ReadsFrom}
 
--- A script was read, and the output is about all intervals in which the talker is audible. If the script has an RTP
--- datagram, `silent` holds, which says that no error is printed.
+-- A script was read, and the output is about the intervals in which the talker is audible, as far as the query selects
+-- them. If the script has an RTP datagram, `silent` holds, which says that no error is printed.
 abbrev pub IsAudible : (talker : ℕ) → Question → (script old new : Option (List ℕ))
     → (silent : Type 0) → Type 0
 IsAudible talker asked script old new silent = IsRead script (λ config notes.

@@ -59,8 +59,8 @@ pub record IsRead (script : Option (List ℕ)) (Told : Config → List Note → 
   pub state : CoreState
   pub prints : IsFollowed config script rest state (Told config)
 
--- A script was read, and the output is about all its intervals. The errors say exactly whether the question's talker
--- and listener are missing: the gateway never had them.
+-- A script was read, and the output follows from all its intervals. The errors say exactly whether the question's
+-- talker and listener are missing: the gateway never had them.
 abbrev pub IsHeard : HeardRequest → Question → (script old new : Option (List ℕ))
     → (Says : List ℕ → Type 0) → Status → Type 0
 IsHeard request asked script old new Says status = IsRead script (λ config notes. (missing : Missing)

@@ -13,7 +13,7 @@ use mg_options::Status;
 use std::alloc::{AllocError, Global};
 use std::io::Write;
 
-/// Appends the line that reports a missing termination.
+/// Appends the line that reports a missing termination, or nothing if it isn't missing.
 fn push_line(
     alloc: Global,
     name: &str,
@@ -66,7 +66,8 @@ fn write_lines<E: Write>(text: &[u8], errors: &mut E) -> Result<(), Status>
     }
 }
 
-/// Returns a line for the talker of a question if it is missing, and a line for the listener if it is missing.
+/// Returns a line for the talker of a question if the talker is missing, and a line for the listener if the listener is
+/// missing.
 fn lines_of(alloc: Global, request: &HeardRequest, missing: Missing) -> Result<Vec<u8>, AllocError>
     ensures value { IfOk result (λ text. text.items ≡
         absences (script_name request.now.file) request.now.query.talker request.now.query.listener missing) }

@@ -34,7 +34,7 @@ fn read_line<R: Read>(
         Err(error) if error.is_io_error() => return Err(NamesFault::Read),
         Err(_) => return Err(NamesFault::NoMemory),
     }
-    // An empty line is skipped, and a line feed in quotes is part of a field. Both are errors.
+    // The CSV reader skips an empty line, and takes a line feed in quotes as part of a field. Both are errors here.
     if reader.position().line() > number.saturating_add(1) {
         return Err(NamesFault::BadLine(number));
     }

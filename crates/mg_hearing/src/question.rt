@@ -6,6 +6,6 @@ use mg_heard::{Query, Style};
 pub(crate) struct Question {
     pub(crate) style: Style,
     pub(crate) query: Query,
-    /// The time that the question is about, or `None` for all intervals.
+    /// The single time that the question is about, or `None` if it asks for intervals.
     pub(crate) at: Option<Date>,
 }

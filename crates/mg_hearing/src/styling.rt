@@ -33,8 +33,8 @@ fn find_zone<F: Files, E: Write>(
     }
 }
 
-/// Reads the file of names, if `path` names it. If the file can't be used, reports why to `errors`, and returns the
-/// exit status.
+/// Reads the file of names, or returns no names if `path` is `None`. If the file can't be used, reports why to
+/// `errors`, and returns the exit status.
 fn find_names<F: Files, E: Write>(
     files: &F,
     alloc: Global,
@@ -93,7 +93,7 @@ pub(crate) fn style_of<F: Files, E: Write>(
     }
 }
 
-/// Reports why a question can't be asked. Returns the exit status.
+/// Reports why a question can't be asked or a rule can't be checked. Returns the exit status.
 pub(crate) fn report_name_fault<E: Write>(
     printing: &Printing,
     fault: NameFault,

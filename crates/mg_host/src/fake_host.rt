@@ -105,7 +105,7 @@ impl FakeHost {
         self.log.calls()
     }
 
-    /// Removes and returns the first datagram that is waiting at a socket.
+    /// Removes and returns the first datagram that is waiting at a socket, or returns `None` if none is waiting there.
     fn take_next(&mut self, socket: usize, buffer: &mut [u8]) -> Option<(usize, Peer)>
         ensures log { self.new.log ≡ self.old.log }
         ensures within { IfSome result (λ d. d.0 ≤ length buffer.new) }

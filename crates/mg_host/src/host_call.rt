@@ -20,7 +20,7 @@ pub enum HostCall {
     Poll(bool),
     /// A call of a session on its ports.
     OnPorts(Call),
-    /// A session did not receive from this socket, because no datagram was reported there.
+    /// A session did not receive from this socket, because no datagram could be waiting there.
     NotReported(usize),
     /// A session did not send this datagram.
     NotSent(usize, Peer, Payload, Unsent),

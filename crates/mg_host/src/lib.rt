@@ -11,7 +11,7 @@
 //! find out whether it runs on such a host. The operating system logs nothing. [`FakeHost`] is a host in memory:
 //!
 //! ```rust
-//! let mut host = FakeHost::new(alloc, Some(journal), None);
+//! let mut host = FakeHost::new(alloc, Some(journal), None, waiting);
 //! let mut file = host.open_journal("journal.txt")?;
 //! ```
 #![tactic(auto)]

@@ -20,7 +20,8 @@ pub trait Sockets: Tells {
         ensures logged { Grows (Self.calls self.old) (Self.calls self.new) (Bind address port (is_ok result) ∷ []) };
 
     /// Adds a control socket. From then on, socket 0 also receives the datagrams that arrive there. A datagram that is
-    /// sent from socket 0 leaves from the control socket that received the last datagram.
+    /// sent from socket 0 leaves from the control socket that received the last datagram or, before any was received,
+    /// from the one that was bound first.
     fn bind_also(&mut self, address: [u8; 4], port: u16) -> io::Result<()>
         ensures logged { Grows (Self.calls self.old) (Self.calls self.new) (BindAlso address port (is_ok result) ∷ []) };
 
@@ -46,7 +47,7 @@ pub trait Sockets: Tells {
     fn send(&mut self, socket: usize, to: Peer, bytes: &[u8]) -> Result<(), PortFault>
         ensures logged { Grows (Self.calls self.old) (Self.calls self.new) (OnPorts (Send socket to bytes.now) ∷ []) };
 
-    /// Logs that a session didn't receive from a socket, because no datagram was reported there.
+    /// Logs that a session didn't receive from a socket, because no datagram could be waiting there.
     fn log_unreported(&mut self, socket: usize)
         ensures logged { Grows (Self.calls self.old) (Self.calls self.new) (NotReported socket ∷ []) };
 

@@ -61,7 +61,7 @@ pub whole_line : (line : List ℕ) → IsWhole (line ++ 10 ∷ [])
 unfolding whole_lines
 whole_line line = whole_before line (10 ∷ []) refl
 
--- Complete lines contain a line feed.
+-- Complete lines contain a line feed, unless there are no bytes.
 fed_of : (b : ℕ) (bytes : List ℕ) (fed : Bool) → has_line_feed (b ∷ bytes) ≡ fed → IsWhole (b ∷ bytes) → fed ≡ true
 unfolding whole_lines
 fed_of b bytes true is whole = refl
@@ -206,7 +206,7 @@ ends_whole (b ∷ bytes) ends =
     last_byte b bytes ∙ ap (λ (c : ℕ). take (length bytes) (b ∷ bytes) ++ c ∷ []) feed in
     subst (λ (l : List ℕ). IsWhole l) (sym parts) (whole_line (take (length bytes) (b ∷ bytes)))
 
--- A line ends in a line feed after a caller appends the line feed.
+-- A line with a line feed appended to it satisfies `EndsInLineFeed`.
 pub ends_line : (line : List ℕ) → EndsInLineFeed (line ++ 10 ∷ [])
 ends_line line =
     let at : length (line ++ 10 ∷ []) - 1 ≡ length line = omega (arith, length-append line (10 ∷ [])) in

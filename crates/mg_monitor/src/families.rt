@@ -8,7 +8,7 @@ use mg_serve::TickReport;
 use std::io::{self, Write};
 use std::time::Duration;
 
-/// Returns the number of terminations that accepted a packet within the last second.
+/// Returns the number of terminations whose port accepted a packet within the last second.
 pub fn sending(core: &Core, ports: &[PortTotals], ticks: u64) -> usize {
     let mut sending: usize = 0;
     for place in 0..core.terminations() {
@@ -173,7 +173,7 @@ pub fn put_ports<W: Write>(
     put_silences(report, ports, page)
 }
 
-/// Writes the number of the termination at each port.
+/// Writes, for each port that has a termination, the number of the termination.
 fn put_terminations<W: Write>(
     report: &TickReport<'_>,
     ports: &[PortTotals],
@@ -194,7 +194,7 @@ fn put_terminations<W: Write>(
     Ok(())
 }
 
-/// Writes a counter for each port.
+/// Writes a counter for each port that has a termination or at which a datagram has arrived.
 fn put_port_counter<W: Write>(
     counter: PortCounter,
     report: &TickReport<'_>,
@@ -210,7 +210,8 @@ fn put_port_counter<W: Write>(
     Ok(())
 }
 
-/// Writes, for each port, the time since it last accepted a packet, or since the start.
+/// Writes, for each port that has a termination or at which a datagram has arrived, the time since it last accepted a
+/// packet, or since the start.
 fn put_silences<W: Write>(
     report: &TickReport<'_>,
     ports: &[PortTotals],

@@ -55,7 +55,7 @@ impl PortCounts {
         self.loss.lost().saturating_sub(self.lost_before)
     }
 
-    /// Returns for how many ticks a caller who is expected to send has been silent.
+    /// Returns for how many ticks a caller who is expected to send has been silent, or 0 if nobody is expected to send.
     ///
     /// `expected` is the termination whose caller should be sending. The silence starts at the later of two moments:
     /// the last accepted packet, and the first report at which this caller was expected to send.

@@ -19,9 +19,10 @@ type Text = ArrayVec<u8, 512>;
 /// Prints reports for an operator.
 ///
 /// At the given interval, it prints the totals since the start. It also prints a line for each media port that has had
-/// trouble since the last report, or whose caller was silent. After a stall, it prints how many packets were too late
-/// to be sent. When appends to the journal begin to fail, or work again, it prints a line at once. At most once a
-/// second, it prints how many messages didn't pass the fence. It skips lines that can't be printed.
+/// trouble since the last report, or whose caller was silent for the whole interval. After a stall, it prints how many
+/// packets were too late to be sent. When appends to the journal begin to fail, or work again, it prints a line at
+/// once. At most once a second, it prints how many messages didn't pass the fence. It skips lines that can't be
+/// printed.
 #[derive(Drop)]
 pub struct Reports<'a, E: Write> {
     every: u64,
@@ -114,7 +115,8 @@ impl<'a, E: Write> Reports<'a, E> {
         let _ = self.writer.flush();
     }
 
-    /// If the port of a slot had trouble or its caller was silent, prints the port's counts. Resets the counts.
+    /// If the port of a slot had trouble or its caller was silent for the whole interval, prints the port's counts.
+    /// Resets the counts.
     fn print_slot(&mut self, report: &TickReport<'_>, slot: u8) {
         let rooms = report.core.rooms();
         let (Some(port), Some(counts)) = (rooms.port(slot), self.ports.get_mut(usize::from(slot)))

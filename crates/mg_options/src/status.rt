@@ -13,7 +13,8 @@ pub enum Status {
     NoAnswer,
     /// A talker could not be heard at the given time.
     CouldNotHear,
-    /// A script doesn't say who could be heard at the given time, or has no seals.
+    /// A script doesn't cover the given time, or its gateway never had the talker or the listener in question, or a
+    /// text has no seals.
     Unknown,
     /// A script breaks a rule about who must not be heard.
     RuleBroken,

@@ -27,7 +27,7 @@ module _ {P : Type 0} where
   abbrev pub dropped : Outlet P → ℕ
   dropped o = o.dropped
 
-  -- The error of the pipe, after which nothing more is written.
+  -- The error of the pipe, after which nothing more is written, or `None` if the pipe has not failed.
   abbrev pub failure : Outlet P → Option Error
   failure o = o.failure
 

@@ -147,7 +147,7 @@ impl<P: Pipe> Outlet<P> {
         }
     }
 
-    /// Stores an error for later calls.
+    /// Returns the outcome. If it is an error, stores the error for later calls.
     fn keep(&mut self, outcome: io::Result<()>) -> io::Result<()>
         ensures value { result ≡ outcome }
         ensures fails { IfErr outcome (λ e. self.new ≡ record self.old { failure = Some e }) }

@@ -7,7 +7,7 @@ use thiserror::Error;
 pub enum PaceFault {
     #[error("cannot read the clock")]
     Clock,
-    /// A write failed: nobody reads the lines any more.
+    /// A write failed, which is taken to mean that nobody reads the lines any more.
     #[error("the output is closed")]
     Closed,
 }

@@ -96,7 +96,8 @@ impl FakePorts {
         Ok(())
     }
 
-    /// Removes and returns the first datagram that is waiting at a socket.
+    /// Removes and returns the first datagram that is waiting at a socket, or returns `None` if none is waiting there.
+    /// Fails if the receive's number is in the list of calls that fail.
     fn take_next(
         &mut self,
         socket: usize,

@@ -42,8 +42,8 @@ abbrev pub IsUnusable : (address : List ℕ) → Type 0
 IsUnusable address = (address ≡ 0 ∷ 0 ∷ 0 ∷ 0 ∷ []) ⊎ (224 ≤ slice_index address 0)
 
 -- Whether the gateway may make this call. A packet from a media socket is sent if and only if its tick is on time and
--- its destination is usable. A receive is left out only if no datagram can be waiting at the socket. Right before the
--- control socket's turn, the host is asked at which sockets datagrams have arrived.
+-- its destination is usable. A receive is left out only if no datagram can be waiting at the socket. Right before each
+-- receive from the control socket, the host is asked at which sockets datagrams have arrived.
 abbrev pub MayCall : Knows → HostCall → Type 0
 MayCall k (Reported socket) = Unit {0}
 MayCall k (Poll polled) = Unit {0}

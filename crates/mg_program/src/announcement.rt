@@ -75,7 +75,7 @@ fn write_fence(service: &Service, reached: u32, text: &mut Text) {
 }
 
 /// Prints the program's version, and the addresses, ports, controllers, journal and fence of a gateway. Warns if
-/// anybody may command the gateway. `reached` is the number that the journal has reached.
+/// anybody may command the gateway. `reached` is the number that the journal's messages have reached.
 pub(crate) fn announce<T: Write>(
     config: &Config,
     service: &Service,

@@ -122,10 +122,10 @@ fn run<E: Environment>(
 /// the host and the streams.
 ///
 /// The status is 0 on success, 1 for a bad script line, and 2 for invalid arguments, an invalid configuration or a
-/// gateway that doesn't answer. It is 3 for other faults of the system: for example, a read or a write failed, the
-/// clock can't be read, or there are no random numbers. It is 4 if memory ran out, 5 for a port that can't be bound,
-/// and 6 for a journal or another file that can't be used. With any of these faults, an error message goes to `errors`.
-/// A gateway's periodic reports go to `reports`.
+/// gateway that doesn't answer. It is 3 for faults of the system that have no status of their own: for example, a read
+/// or a write failed, the clock can't be read, or there are no random numbers. It is 4 if memory ran out, 5 for a port
+/// that can't be bound, and 6 for a journal or another file that can't be used. Each of these faults, and a
+/// gateway that doesn't answer, is reported on `errors`. A gateway's periodic reports go to `reports`.
 ///
 /// Some statuses are answers. For a question about a given time, 1 means that the talker could not be heard, and 2 that
 /// the script doesn't say. For any question about who could be heard, 2 also means that the gateway never had the

@@ -1,4 +1,4 @@
-ghost use Rattle.std.specs.Prelude.{◌≡◌, ◌≢◌, ◌⊎◌, ℕ, [], List, Option, Some, Err, IfErr, IfSome, IsSome};
+ghost use Rattle.std.specs.Prelude.{◌≡◌, ◌≢◌, ◌⊎◌, ℕ, [], List, Option, Some, Err, IfSome, IsSome};
 ghost use Rattle.std.specs.Option.{option_map_or};
 ghost use Rattle.mg_clock.specs.Ticks.{clock_seen};
 ghost use Rattle.mg_engine.specs.Config.{IsValidConfig};

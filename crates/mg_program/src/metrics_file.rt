@@ -62,7 +62,7 @@ fn temporary_path(path: &FilePath) -> ArrayString<MAX_PATH> {
     temporary
 }
 
-/// Returns whether metrics with this path would replace the journal.
+/// Returns whether metrics with this path would replace the journal, judging by the two paths alone.
 pub fn replaces_journal(path: &FilePath, journal: &Option<FilePath>) -> bool {
     let Some(journal) = journal else {
         return false;

@@ -94,8 +94,8 @@ fn receive_if_ready<H: Sockets>(
     Ok(None)
 }
 
-/// Receives from a socket, or returns `None` if no datagram can be waiting there. Before the control socket's turn,
-/// asks the host at which sockets datagrams have arrived.
+/// Receives from a socket, or returns `None` if no datagram can be waiting there. For the control socket, first asks
+/// the host at which sockets datagrams have arrived.
 pub(crate) fn receive_reported<H: Sockets>(
     host: &mut H,
     ready: &mut Ready,

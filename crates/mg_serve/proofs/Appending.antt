@@ -108,7 +108,8 @@ logs_both a b c p q h k = subst (λ (l : List Call). LogsCalls a c l) (sym (call
   journaled = after_both (calls_of p) (calls_of q) a.journal b.journal c.journal h.journaled k.journaled;
 })
 
--- In a record `AppendsBefore`, the trace fits the numbers of ticks that the journal lacks before and after the appends.
+-- In a record `AppendsBefore` of appends that succeeded, the trace fits the numbers of ticks that the journal lacks
+-- before and after the appends.
 lacked : (a b : PortsSeen) (j k : JournalView) → (h : AppendsBefore [] (Ok tt) a b j k) →
     IsJournaled j.durability j.lacking h.trace k.lacking
 lacked a b j k h =

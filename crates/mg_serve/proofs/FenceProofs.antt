@@ -1,5 +1,5 @@
--- Behind a fence, a message is not run if an earlier message with a higher number was run since an operator last set
--- the fence.
+-- Behind a fence, a message with a number is not run if an earlier message with a higher number was run since an
+-- operator last set the fence.
 use Rattle.std.proofs.Common.{◌≡◌, ℕ, ◌≤◌, max, true, List, [], ◌∷◌, ◌++◌, map, Option, Some, None, refl, sym, ap, subst, ◌∙◌, arith, unwrap_or}
 use Rattle.std.specs.Option.{option_map}
 use Rattle.std.proofs.lemmas.Bool.{leb-true}

@@ -61,7 +61,7 @@ ticks_run (suc n) w =
     let (others, run) = ticks_run n (world_after_tick w) in
     (first ++ others, (first, others, world_after_tick w, (refl, refl), run, refl))
 
--- The first part of a session is a run too.
+-- If the events of a session form a run, so do the events of its first part.
 pub front_run : (setup : Setup) (w last : World) (front rest : List TraceEntry) → SendsAreARun setup w (front ++ rest) last
     → (sent : List Sent) × (now : World) × Run w (events_of_trace front) sent now
 front_run setup w last front rest ran =

@@ -101,7 +101,7 @@ pub stale_journaled : (d : Option Durability) (n : ℕ) (source : Peer) (bytes :
 stale_journaled None n source bytes = (refl, refl)
 stale_journaled (Some durable) n source bytes = (Lacks n, refl, refl)
 
--- Calls without an append leave the number of lacking ticks unchanged.
+-- Without an append, calls don't change the number of ticks that the journal lacks.
 pub calls_journaled : (d : Option Durability) (n : ℕ) (calls : List Call) → list_any is_append calls ≡ false →
     IsJournaled d n (map (λ (call : Call). Called call) calls) n
 calls_journaled d n [] quiet = nothing_journaled d n
@@ -122,7 +122,7 @@ pub tick_journaled : (d : Option Durability) (n : ℕ) →
 tick_journaled None n = (refl, refl)
 tick_journaled (Some durable) n = (Lacks (n + 1), refl, refl)
 
--- ## The ticks since an append was tried
+-- ## The ticks since an append was last tried
 
 tries_both : (a b c : ℕ) (p q : List TraceEntry) → Tries a p b → Tries b q c → Tries a (p ++ q) c
 tries_both a b c [] q h k = subst (λ (n : ℕ). Tries n q c) h k

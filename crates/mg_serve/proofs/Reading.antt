@@ -166,7 +166,7 @@ feed_fault_by form setup false left kept failed w next p is printed h = (
 feed_fault_by form setup true left kept failed w next p is printed h =
     absurd (quit_prints_nothing form (line_command (without_return left)) is printed)
 
--- If something is printed for the partial line at the end of the input, that line is not `quit`.
+-- If something can be printed for the partial line at the end of the input, that line is not `quit`.
 pub last_stands : (form : Form) (kept left : List ℕ) → kept ≡ take 8 left → 0 < length kept → prints form (line_command
     kept) ≡ true
     → (before_quit (lines_after true left []) ≡ left ∷ []) × (prints form (line_command left) ≡ true)

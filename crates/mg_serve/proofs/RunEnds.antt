@@ -134,7 +134,7 @@ LineExits form result ended text lines others left commands = Exits result
     ⊎ ((more : List ℕ) → before_quit (lines_of true (text ++ more)) ≡ lines)))
     ((ended ≡ false) × (others ≡ [])) ((lines ≡ []) × (text ≡ [])) (LastPrints form commands)
 
--- At the end of the input, the partial line is the last line.
+-- At the end of the input, a partial line that isn't empty is the last line.
 ends_at_end : (form : Form) (setup : Setup) (i j k : Option (List ℕ)) (kept : List ℕ)
     (r : Result (Unit {0}) RunFault) (w mid next : World) (p q : List TraceEntry) → Keeps j k →
     ((text : List ℕ) (lines : List (List ℕ)) (left : List ℕ) → kept ≡ take 8 left →

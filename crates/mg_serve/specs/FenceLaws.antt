@@ -1,4 +1,5 @@
--- The purpose of a fence: a controller that has been replaced can't command the gateway any more.
+-- The purpose of a fence: a controller that has been replaced can't command the gateway with numbered messages any
+-- more.
 use Rattle.std.specs.Prelude.{ℕ, ◌≤◌, List, ◌∷◌, ◌++◌, map, Option, Some}
 use Rattle.mg_words.specs.declared.peer.Peer.{Peer}
 use Rattle.mg_core.specs.declared.event.Event.TheVariants.{Control}

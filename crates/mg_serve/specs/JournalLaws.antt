@@ -112,8 +112,8 @@ pub record LosesSpeech (lacking : ℕ) (now resumed : World) : Type 0 where
       × Step before (events.Control source bytes) sent resumed)
 
 -- A crash at a moment of a session, in the world `now`. The journal contains its events from the start, and then the
--- events `written`. These are the events that happened, except for RTP datagrams and lost ticks, and perhaps a message
--- that was not handled. A run of all events in the journal ends in the world in which a gateway resumes.
+-- events `written`. These are the events that happened, without RTP datagrams and lost ticks. A message that was not
+-- handled may come last. A run of all events in the journal ends in the world in which a gateway resumes.
 pub record Survives (setup : Setup) (durability : Durability) (w : World) (told : List Event)
     (front : List TraceEntry) (journal : JournalState) : Type 0 where
   pub now : World

@@ -23,14 +23,14 @@ abbrev pub is_quit : Command → Bool
 is_quit Quit = true
 is_quit _ = false
 
--- Whether something is printed for a command: a line in reply, or its events in a recording.
+-- Whether something can be printed for a command: a line in reply, or its events in a recording.
 abbrev pub prints : Form → Command → Bool
 prints form Stats = true
 prints form Quit = false
 prints form Unknown = true
 prints form command = is_recording form
 
--- Something is printed for the last command in the list.
+-- Something can be printed for the last command in the list.
 pub record LastPrints (form : Form) (commands : List Command) : Type 0 where
   pub front : List Command
   pub command : Command

@@ -78,7 +78,7 @@ LacksJournal event w trace next =
     ∷ Noted (codes "no journal for a control datagram") ∷ [])
     × (next ≡ w) × ArePreceding event lines
 
--- The event happens after some appends, unless an append fails. Only a control datagram is appended.
+-- The event happens after some appends, unless an append fails. Before an RTP datagram is handled, nothing is appended.
 abbrev pub HandlesDatagram : Setup → ℕ → Event → World → List TraceEntry → World → Type 0
 HandlesDatagram setup zero event w trace next =
     (appended : List TraceEntry) × (others : List TraceEntry)

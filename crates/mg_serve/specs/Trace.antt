@@ -28,7 +28,7 @@ events_of_trace [] = []
 events_of_trace (Happened event ∷ trace) = event ∷ events_of_trace trace
 events_of_trace (_ ∷ trace) = events_of_trace trace
 
--- Text as one line: without line feeds, and at most its first 1,000 bytes.
+-- Text as one line: without line feeds, and only the first 1,000 of its other bytes.
 abbrev pub one_line : List ℕ → List ℕ
 one_line text = take 1000 (filter (λ b. not (b == 10)) text)
 

@@ -12,9 +12,9 @@ pub fn each_part_is_a_moment()
 
 /// Nothing answered is forgotten.
 ///
-/// When a gateway with a journal sends an answer, the journal already contains everything except RTP datagrams: each
-/// tick and each message, including the one that is answered. If messages are synced, all of the journal's text is on
-/// the disk.
+/// When a gateway with a journal sends an answer, the journal already contains everything that happened, except for RTP
+/// datagrams: each tick, and each message that was handled, including the one that is answered. If messages are synced,
+/// all of the journal's text is on the disk.
 pub fn nothing_answered_is_forgotten()
     ensures theorem { NothingAnsweredIsForgotten }
 {

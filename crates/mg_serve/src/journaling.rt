@@ -23,15 +23,15 @@ use std::marker::Model;
 /// a broken rule only after the journal has the tick after the message.
 const TOGETHER: u64 = 10;
 
-/// The state of a session's journal and fence: the number of ticks that the journal lacks, and the highest number of
-/// the messages that were run. A session may have no journal, and no fence.
+/// The state of a session's journal, such as the number of ticks that it lacks, and the session's fence. A session may
+/// have no journal, and no fence.
 ///
 /// A message is appended before it is handled. Ticks are appended five times a second, and before each message.
 #[derive(Drop)]
 pub struct Journaling {
     durability: Option<Durability>,
     lacking: u64,
-    /// The number of ticks since an append was tried.
+    /// The number of ticks since an append was last tried.
     untried: u64,
     fence: Option<Fence>,
     line: EventLine,
@@ -122,7 +122,8 @@ impl Journaling {
         self.fence
     }
 
-    /// Returns whether a message with this number passes the fence.
+    /// Returns whether a message with this number, or without a number, passes the fence. Without a fence, each message
+    /// passes.
     pub fn passes(&self, bytes: &[u8], number: Option<u32>) -> bool
         ensures value { result ≡ passes self.now.fence bytes.now number }
     {

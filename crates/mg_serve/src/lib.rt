@@ -11,9 +11,9 @@
 //!
 //! [`serve`] is proved for any [`Ports`](mg_ports::Ports). On return, the complete lines that it read and their effects
 //! form a session (`specs/Session.antt`). So it reads the ports in order, and sends each answer and each packet once.
-//! It drops a datagram only for a reason that the definition names: the datagram came from a stranger or didn't pass
-//! the fence, memory ran out, or the journal failed. [`theorems`] goes further: a session sends what a run of its
-//! events sends, and reading its recording back yields the same events.
+//! It keeps a datagram from the gateway's core only for a reason that the definition names: the datagram came from a
+//! stranger or didn't pass the fence, memory ran out, or the journal failed. [`theorems`] goes further: a session sends
+//! what a run of its events sends, and reading its recording back yields the same events.
 #![tactic(auto)]
 
 mod clock_driver;

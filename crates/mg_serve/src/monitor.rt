@@ -15,6 +15,6 @@ pub trait Monitor {
     /// Called when a tick begins.
     fn begin_tick(&mut self, core: &Core);
 
-    /// Called at the end of a tick, after its packets were sent.
+    /// Called at the end of a tick, after its packets were sent or left out.
     fn end_tick(&mut self, report: &TickReport<'_>);
 }

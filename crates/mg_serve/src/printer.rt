@@ -62,8 +62,8 @@ fn put_now<W: Write>(has_failed: &mut bool, text: &[u8], writer: &mut W)
     let _ = writer.flush();
 }
 
-/// Appends `text` as one line, without a line feed at the end. Line feeds in the text are left out, and only its first
-/// 1,000 bytes are kept.
+/// Appends `text` as one line, without a line feed at the end. Line feeds in the text are left out, and only the first
+/// 1,000 of the other bytes are kept.
 #[tactic(auto, using(crate::proofs::OneLine::short))]
 fn push_line(text: &[u8], out: &mut Bytes)
     requires room { PRINTED_LIMIT ≤ out.old.room }

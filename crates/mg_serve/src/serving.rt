@@ -27,8 +27,8 @@ use std::io::Read;
 /// configuration does not include are not used.
 ///
 /// - `poll` reads at most 64 datagrams from each socket: first from the control socket, then from the media sockets in
-///   ascending order. A control message that needs an answer is answered at once; a message from an address that isn't
-///   a controller's is dropped, and so is a message that doesn't pass the fence. A failed receive ends that socket's
+///   ascending order. A control message that needs an answer is answered at once. A message is dropped if it doesn't
+///   come from a listed controller (if any is listed) or doesn't pass the fence. A failed receive ends that socket's
 ///   turn.
 /// - `tick` advances by 20 ms and sends the packets. If a send fails, only that packet is lost.
 /// - `stats` prints `control=a media=b ticks=c sent=d failed=e dropped=f,g,h,i,j,k concealed=l`: [`Counts`] explains
@@ -126,8 +126,8 @@ fn drive<P: Peripherals, R: Read>(
 /// later. After a delay, all missed ticks are executed at once. If a tick is later than the timer allows, its packets are
 /// not sent.
 ///
-/// Returns only on a fault: `Read` if the clock can't be read, `Write` if printing failed, or `NoMemory` before
-/// anything is executed.
+/// Returns only on a fault: `Read` if the clock can't be read or can't reach the next tick, or after 2^64 - 1 steps;
+/// `Write` if printing failed; or `NoMemory` before anything is executed.
 pub fn serve_by_clock<P: Peripherals, K: Watch>(
     start: Start<'_>,
     ports: &mut P::Ports,

@@ -3,7 +3,7 @@
 ghost use Rattle.mg_serve.specs.FenceLaws.{NoLowerNumberIsRun};
 ghost use Rattle.mg_serve.specs.Theorems.{SessionsAreRuns, SessionsAreReadBack, CutSessionsAreReadBack, ReplaysAreTheSession};
 
-/// A controller that has been replaced can't command the gateway any more.
+/// A controller that has been replaced can't command the gateway with numbered messages any more.
 ///
 /// After a message with a number was run, no message with a lower number is run behind a fence, unless an operator has
 /// set the fence since. This holds in this life of the gateway, and in later lives that resume from its journal. The

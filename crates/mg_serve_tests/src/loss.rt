@@ -4,7 +4,8 @@ use crate::equality::assert_equal;
 use mg_monitor::Loss;
 use mg_rtp::Header;
 
-/// A step of a test: packets of stream 7, in the order of their arrival, or the expected count so far.
+/// A step of a test: packets in the order of their arrival, or the expected count so far. The packets belong to stream
+/// 7, except the packet of `Other`.
 #[derive(Clone, Copy)]
 enum Step {
     /// A packet with this sequence number.

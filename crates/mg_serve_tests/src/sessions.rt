@@ -194,7 +194,7 @@ pub fn count(text: &[u8], byte: u8) -> usize {
 /// For a receive or a send, returns its socket and a letter: `c` for a received datagram, `n` for none, `f` for a
 /// failed receive, `a` for an answer, and `p` for a packet. For an append to the journal, returns the number of lines
 /// and a letter: `w` if they were written, `s` if they were synced, `r` if they were refused, and `b` if the journal
-/// broke. For a tick that is too late, returns `l`.
+/// broke. For a late tick, returns 0 and `l`. For a tick that is on time, returns `None`.
 fn letter(call: &Call) -> Option<(char, usize)> {
     match call {
         Call::Receive(socket, Receipt::Delivered(_, _)) => Some(('c', *socket)),
@@ -216,7 +216,7 @@ fn letter(call: &Call) -> Option<(char, usize)> {
     }
 }
 
-/// Returns the letter of each call, with the last digit of its socket or number of lines.
+/// Returns the letter of each call that has one, with the last digit of its socket or number of lines.
 fn call_log(alloc: Global, ports: &FakePorts) -> Result<String, AllocError> {
     let mut text = String::new(alloc);
     for call in ports.calls().unwrap_or(&[]) {

@@ -49,7 +49,7 @@ abbrev pub missed_after : (text : List ℕ) → (millis : Option ℕ) → ℕ
 missed_after text None = 0
 missed_after text (Some millis) = missed_since (timeline_after text) (record { millis = millis })
 
--- The calls bound sockets, read the date, and appended lines to a journal, but did nothing else.
+-- The calls did nothing but bind sockets, read the date, and append lines to a journal. Each of them may have failed.
 abbrev pub IsQuiet : List HostCall → Type 0
 IsQuiet [] = Unit {0}
 IsQuiet (Bind address port bound ∷ calls) = IsQuiet calls

@@ -8,7 +8,8 @@ pub struct Gateway<'a> {
     pub alloc: Global,
     pub config: Config,
     pub core: Core,
-    /// The number that the journal has reached.
+    /// The number that the journal's messages have reached, or 0 without a journal. A fence begins at this number
+    /// unless an operator sets it.
     pub reached: u32,
     pub service: &'a Service,
 }

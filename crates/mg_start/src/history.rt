@@ -36,7 +36,7 @@ pub(crate) struct History {
     pub config: Config,
     pub core: Core,
     pub timeline: Timeline,
-    /// The number that the journal has reached.
+    /// The number that the journal's messages have reached. A fence begins at this number unless an operator sets it.
     pub reached: u32,
 }
 

@@ -27,7 +27,8 @@ pub struct Prepared<F: JournalFile> {
     pub config: Config,
     pub core: Core,
     pub journal: Option<FoundJournal<F>>,
-    /// The number that the journal has reached, or 0 without a journal.
+    /// The number that the journal's messages have reached, or 0 without a journal. A fence begins at this number
+    /// unless an operator sets it.
     pub reached: u32,
 }
 

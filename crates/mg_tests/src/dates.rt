@@ -103,7 +103,7 @@ fn counts_missed_ticks(rt: HostRuntime) -> Result<(), Fail> {
     timeline.pass_comment(b"");
     timeline.pass_ticks(40);
     timeline.pass_ticks(10);
-    // All ticks of the first second were run, and then there is a gap of 300 ms.
+    // All ticks of the first second were run. Then 15 ticks are missed in 319 ms.
     assert_equal(&rt, timeline.missed(after(1_000)), 0);
     assert_equal(&rt, timeline.missed(after(1_319)), 15);
     // The clock was set back.

@@ -1,4 +1,5 @@
-//! Tests of the engine: causes of drops, totals, who hears whom by termination number, and the cost of a tick.
+//! Tests of the engine: causes of drops, totals, who hears whom by termination number, the cost of calls, shared
+//! payloads and skipped ticks.
 
 use crate::equality::assert_equal;
 use mg_engine::{
@@ -350,7 +351,7 @@ fn isolates_by_an_edit(rt: HostRuntime) -> Result<(), Fail> {
     play(&rt, rt.alloc(), Scene::IsolateByAnEdit, &SPEAKERS[..3])
 }
 
-/// Returns how many rows a call cost.
+/// Returns how many rows the engine's calls have cost since its work was `before`.
 fn rows_since(engine: &Engine, before: u32) -> u32 {
     engine.work().wrapping_sub(before)
 }

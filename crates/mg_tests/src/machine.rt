@@ -85,8 +85,8 @@ fn reads_then_runs(alloc: Global, core: &mut Core, bytes: &[u8]) -> Result<bool,
     runs_around(alloc, core, bytes, &parsed)
 }
 
-/// A datagram takes effect in the state of the core when it is passed to `run`, not when it is read. Each datagram is
-/// counted.
+/// A datagram takes effect in the state that the core has when the datagram is passed to `run`, not when it is read.
+/// Each datagram is counted.
 fn run_what_was_read(rt: &impl Abort, alloc: Global, core: &mut Core) -> Result<(), Fail> {
     assert!(rt; rejects_what_is_no_message(alloc, core)?);
     assert_equal(rt, core.counts().control, 1);
@@ -135,7 +135,8 @@ fn runs_messages_and_ticks(rt: HostRuntime) -> Result<(), Fail> {
     Ok(())
 }
 
-/// Runs a script with a reader that fails after this many calls. Returns the output and the result of the run.
+/// Runs a script with a reader that returns at most `piece` bytes per call and fails after this many calls. Returns the
+/// output and the result of the run.
 fn read_in_pieces(
     alloc: Global,
     script: &[u8],
@@ -152,8 +153,8 @@ fn read_in_pieces(
     (written, outcome)
 }
 
-/// Runs a script with a writer that takes 50 bytes per call and fails after this many calls. Returns the output and the
-/// fault, which is `None` if the run succeeds.
+/// Runs a script with a writer that takes at most 50 bytes per call and fails after this many calls. Returns the output
+/// and the fault, which is `None` if the run succeeds.
 fn write_in_pieces(alloc: Global, script: &[u8], calls: usize) -> (Vec<u8>, Option<RunFault>) {
     let mut reader = Cursor::new(script);
     let mut writer = FailingWriter::new(alloc, 50, calls);

@@ -151,7 +151,7 @@ fn set_settings(rt: &impl Abort, rooms: &mut Rooms) {
     assert_equal(rt, rooms.find(Target::Number(1), 1).ok(), Some(SET));
 }
 
-/// Blank content removes media, and settings that are not named are unchanged.
+/// Blank content and `Clear` remove media, and settings that are not named are unchanged.
 fn clear_settings(rt: &impl Abort, rooms: &mut Rooms) {
     let cleared = Settings {
         mode: None,

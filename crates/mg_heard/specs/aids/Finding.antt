@@ -5,8 +5,8 @@ use Rattle.mg_heard.specs.declared.entry.Entry.{Entry}
 use Rattle.mg_heard.specs.declared.instant.Instant.{Instant}
 use Rattle.mg_heard.specs.Verdict.{gap_at, heard_at}
 
--- After these entries, the sink has the same question. It has also found the first matching interval and the first
--- matching gap, unless it had found them before.
+-- After these entries, the sink still has the same question. It has also found the first matching interval and the
+-- first matching gap, unless it had found them before.
 pub record HasFound (start now : Instant) (xs : List Entry) : Type 0 where
   pub query : now.query ≡ start.query
   pub time : now.time ≡ start.time

@@ -44,7 +44,7 @@ without_flows flows xs = filter (λ x. not (has flows x.flow)) xs
 
 -- ## Places for intervals
 
--- The maximum number of flows that can be open.
+-- An upper limit for the number of open flows.
 abbrev pub flow_limit : ℕ
 flow_limit = termination_limit * member_limit
 

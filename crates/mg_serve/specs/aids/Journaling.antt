@@ -1,4 +1,4 @@
--- Steps of a session's journal, as seen by the ports and by the session's own view of the journal.
+-- Steps of a session's journal, as the ports see them and in the session's own view of the journal.
 use Rattle.std.specs.Prelude.{◌≡◌, ◌⊎◌, ℕ, ◌+◌, ◌<◌, All, List, [], ◌∷◌, ◌++◌, Option, Some, None, Result, Ok, Err}
 use Rattle.mg_journal.specs.declared.append_fault.AppendFault.{AppendFault}
 use Rattle.mg_journal.specs.declared.durability.Durability.{Durability}

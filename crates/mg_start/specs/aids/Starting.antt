@@ -57,8 +57,8 @@ abbrev pub PassesTicks : ℕ → CoreState → CoreState → Type 0
 PassesTicks ticks old new =
     (w : World) → StandsFor old w → StandsFor new (world_after_ticks ticks w)
 
--- The journal works. If its text is known, it consists of the text that was found, the title, the lines for missed
--- ticks, and the comment with which an operator sets the fence.
+-- The journal works. If its text is known, it consists of the text that was found, the title if the journal is new, and
+-- the lines that are appended before a gateway starts.
 pub record HasBegun (title : List ℕ) (ticks : ℕ) (fence : Option ℕ) (found : Option (List ℕ))
     (journal : JournalState) : Type 0 where
   pub works : journal.is_broken ≡ false

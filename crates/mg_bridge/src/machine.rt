@@ -3,6 +3,8 @@
 
 mod control_watch;
 mod disk_file;
+mod receiving;
+mod reports;
 mod system_host;
 
 pub(crate) use crate::machine::system_host::SystemHost;

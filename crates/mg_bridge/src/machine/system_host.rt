@@ -1,7 +1,9 @@
-ghost use Rattle.std.specs.Prelude.{◌≤◌, ℕ, length, IfOk, IfSome};
+ghost use Rattle.std.specs.Prelude.{◌≤◌, length, IfOk, IfSome};
 
 use crate::machine::control_watch::ControlWatch;
 use crate::machine::disk_file::DiskFile;
+use crate::machine::receiving::receive_from;
+use crate::machine::reports::{Reports, events, watch_socket};
 use arrayvec::ArrayVec;
 use mg_arguments::MAX_BIND_ADDRESSES;
 use mg_clock::SystemWatch;
@@ -10,32 +12,12 @@ use mg_dates::Date;
 use mg_host::{Clocks, Dates, Host, Journals, Sockets, Tells, Texts, Unsent};
 use mg_ports::{AppendFault, Durability, PortFault, Timing};
 use mg_program::SOCKETS;
+use mio::Poll;
 use mio::net::UdpSocket;
-use mio::{Events, Interest, Poll, Token};
-use std::alloc::AllocError;
 use std::fs::{File, OpenOptions};
 use std::io::{self, ErrorKind};
 use std::net::{IpAddr, SocketAddr};
 use std::time::{Clock, Duration};
-
-/// The maximum number of sockets that a poll can report.
-const MAX_REPORTED: usize = SOCKETS + MAX_BIND_ADDRESSES;
-
-/// The system's reports about sockets.
-#[derive(Drop)]
-struct Reports {
-    poll: Poll,
-    events: Events,
-}
-
-impl Reports {
-    fn new(system: &HostRuntime) -> io::Result<Self> {
-        Ok(Reports {
-            events: events(system)?,
-            poll: Poll::new(system)?,
-        })
-    }
-}
 
 /// The machine, as the operating system presents it. The host logs no calls.
 #[derive(Drop)]
@@ -50,20 +32,6 @@ pub struct SystemHost<'a, C: Clock> {
     reports: Option<Reports>,
 }
 
-/// Creates a buffer for the system's reports.
-fn events(system: &HostRuntime) -> io::Result<Events> {
-    match Events::with_capacity(system.alloc(), MAX_REPORTED) {
-        Ok(events) => Ok(events),
-        Err(AllocError) => Err(io::Error::from(ErrorKind::OutOfMemory)),
-    }
-}
-
-/// Asks the system to report when a datagram arrives at a socket.
-fn watch_socket(poll: &Poll, socket: &mut UdpSocket, number: usize) -> io::Result<()> {
-    poll.registry()
-        .register(socket, Token(number), Interest::READABLE)
-}
-
 /// Adds a socket, if there is room for it.
 fn add<const N: usize>(
     sockets: &mut ArrayVec<Option<UdpSocket>, N>,
@@ -73,36 +41,6 @@ fn add<const N: usize>(
         Ok(()) => Ok(()),
         Err(_) => Err(io::Error::from(ErrorKind::OutOfMemory)),
     }
-}
-
-/// Returns the sender of a datagram. Fails if the sender has no IPv4 address.
-fn peer_of(address: SocketAddr) -> Result<Peer, PortFault> {
-    match address.ip() {
-        IpAddr::V4(ip) => Ok(Peer {
-            address: ip.octets(),
-            port: address.port(),
-        }),
-        IpAddr::V6(_) => Err(PortFault),
-    }
-}
-
-/// Returns the datagram that a socket received, or `None` if the receive would block.
-fn datagram_of(answer: io::Result<(usize, SocketAddr)>) -> Result<Option<(usize, Peer)>, PortFault>
-    ensures within { (limit : ℕ) → IfOk answer (λ received. received.0 ≤ limit)
-        → IfOk result (λ received. IfSome received (λ d. d.0 ≤ limit)) }
-{
-    match answer {
-        Ok((n, address)) => Ok(Some((n, peer_of(address)?))),
-        Err(error) if error.kind() == ErrorKind::WouldBlock => Ok(None),
-        Err(_) => Err(PortFault),
-    }
-}
-
-/// Receives a datagram if one is waiting.
-fn receive_from(socket: &UdpSocket, buffer: &mut [u8]) -> Result<Option<(usize, Peer)>, PortFault>
-    ensures within { IfOk result (λ received. IfSome received (λ d. d.0 ≤ length buffer.new)) }
-{
-    datagram_of(socket.recv_from(buffer))
 }
 
 impl<'a, C: Clock> SystemHost<'a, C> {

@@ -1,7 +1,7 @@
 use Rattle.std.proofs.Common.{◌≤◌, length}
 use Rattle.std.proofs.lemmas.Result.{IfOk-weaker}
 use Rattle.io.specs.Counts.{IsPrefixLen}
-use Rattle.mg_bridge.proofs.machine.system_host.receive_from.Goals as goal
+use Rattle.mg_bridge.proofs.machine.receiving.receive_from.Goals as goal
 
 pub returns : goal.returns
 returns c =

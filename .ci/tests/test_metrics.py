@@ -80,20 +80,23 @@ class Metrics(Commands):
                 self.starve(gateway, caller)
                 second = self.page(first)
                 packets += waiting(caller)
+                last = self.page(second)
                 self.recover(gateway, caller)
         starved = {**COUNTS, "control_messages_unread_total": 3}
         for page, counts in ((first, COUNTS), (second, starved)):
             for name, count in counts.items():
                 with self.subTest(name):
                     self.assertEqual(page[name], count)
-        late, held = (first[f'datagrams_unsent_total{{cause="{cause}"}}'] for cause in ("late", "held"))
+        held = first['datagrams_unsent_total{cause="held"}']
+        # If nobody stopped the gateway meanwhile, these two numbers are equal.
+        late, later = (page['datagrams_unsent_total{cause="late"}'] for page in (second, last))
         arrived = {int.from_bytes(it[2:4], "big") for it in packets}
         self.assertEqual(len(arrived), len(packets))
         with self.subTest("one termination is held, and an answer was sent to the other, which was refused three packets"):
             self.assertEqual(held, first["datagrams_sent_total"] - 1 + 3)
         with self.subTest("both terminations' packets were late"):
             self.assertGreater(late, 40)
-            self.assertEqual(late / 2, max(arrived) + 1 - len(arrived) - 3)
+            self.assertTrue(late <= 2 * (max(arrived) + 1 - len(arrived) - 3) <= later, (late, later))
         with self.subTest("the slow packet was sent in the first five seconds"):
             self.assertTrue(second["step_seconds_max"] < 0.6 <= first["step_seconds_max"], second["step_seconds_max"])
         with self.subTest("whoever has opened the file reads one page"):

@@ -1,8 +1,11 @@
 """Each subcommand in its simplest form."""
+import signal
+import subprocess
 import tempfile
 import threading
+import time
 
-from programs import FIRST, HEARTBEAT, Commands, Gateway, bound, counted, ports, run
+from programs import FIRST, HEARTBEAT, Commands, Gateway, bound, counted, ports, program, run
 
 
 def answer(gateway, message):
@@ -77,6 +80,16 @@ class Runs(Commands):
             self.ends(2, "", f"127.0.0.1:{FIRST} doesn't answer: timed out\n", "check", f"127.0.0.1:{FIRST}")
             heartbeat = b"MEGACO/1 <check>\nTransaction=1{Context=-{AuditValue=ROOT}}"
             self.assertEqual([gateway.recv(100) for _ in range(4)], [heartbeat] * 4)
+
+    def test_check_that_is_stopped_and_continued(self):
+        with bound(FIRST) as (gateway,):
+            words = [program("mg_bridge"), "check", f"127.0.0.1:{FIRST}"]
+            with subprocess.Popen(words, stderr=subprocess.PIPE, text=True) as check:
+                gateway.recv(100)
+                for number in (signal.SIGSTOP, signal.SIGCONT):
+                    time.sleep(0.1)
+                    check.send_signal(number)
+                self.assertEqual(check.communicate(timeout=20)[1], f"127.0.0.1:{FIRST} doesn't answer: timed out\n")
 
     def test_check_acknowledges_the_answer(self):
         """So the gateway doesn't have to keep the reply."""

@@ -27,6 +27,12 @@ fn answers_heartbeat(message: &[u8]) -> bool {
     message.ends_with(REPLY)
 }
 
+/// Returns whether a wait ended without a reply because the time was over, or because the process was stopped and
+/// continued.
+fn is_over(error: &io::Error) -> bool {
+    matches!(error.kind(), ErrorKind::WouldBlock | ErrorKind::Interrupted)
+}
+
 /// Sends the heartbeat up to [`TRIES`] times, until it is answered, and acknowledges the answer. Fails with the
 /// system's error, or with `TimedOut` if no answer arrives.
 fn ask(socket: &UdpSocket, gateway: SocketAddrV4) -> io::Result<()> {
@@ -41,7 +47,7 @@ fn ask(socket: &UdpSocket, gateway: SocketAddrV4) -> io::Result<()> {
                 return Ok(());
             }
             Ok(_) => {}
-            Err(error) if error.kind() == ErrorKind::WouldBlock => {}
+            Err(error) if is_over(&error) => {}
             Err(error) => return Err(error),
         }
     }

@@ -104,6 +104,5 @@ class Failures(Commands):
             caller.recv(2000)
             before = processor_seconds(gateway)
             time.sleep(2)
-            # The gateway wakes up a few times in each tick. A gateway that doesn't wait at all takes twice this time,
-            # or more.
+            # An idle gateway wakes up once in each tick. One that doesn't wait at all takes at least twice this time.
             self.assertLess(processor_seconds(gateway) - before, 0.06)

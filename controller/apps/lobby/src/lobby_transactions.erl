@@ -3,7 +3,7 @@
 %%%
 %%% A gateway keeps its last 32 replies, and runs a duplicate request again if it no longer has the reply. So only a few
 %%% requests are sent after the oldest unanswered one. The gateway also drops a reply once it is acknowledged. So
-%%% replies are acknowledged only after a quiet time, when no copy of the request can be under way any more.
+%%% replies are acknowledged only after a quiet time, when no copy of the request can be in flight any more.
 %%%
 %%% Only the reply names the context and terminations that a request has created. After a failure, the successor learns
 %%% them by repeating the request. So a request that creates a termination isn't sent before the successor is certain to

@@ -423,7 +423,7 @@ sixty_callers_hear_each_other_again(Config) ->
         #{gateway := Name} = people:describe(<<"100">>),
         caller:reset(Alone),
         gateway:kill(maps:get(Name, Gs)),
-        %% Packets may still be under way or in buffers.
+        %% Packets may still be in flight or in buffers.
         timer:sleep(50),
         Killed = erlang:monotonic_time(millisecond) - 50,
         [caller:reset(Caller) || Caller <- Others],

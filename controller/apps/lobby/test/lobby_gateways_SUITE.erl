@@ -485,7 +485,7 @@ another_run(G) ->
 
 fence() -> ["--fence", "--controller", "127.0.0.1"].
 
-%% Alice was unmuted and muted again, and another run has taken over. A copy of the first request was under way all the
+%% Alice was unmuted and muted again, and another run has taken over. A copy of the first request was in flight all the
 %% time.
 an_old_request_is_stale(_) ->
     Modes = after_an_old_request(fence()),
@@ -778,7 +778,7 @@ lost_and_doubled_datagrams(_) ->
      end || N <- lists:seq(1, 12)],
     Others = lists:seq(1, 11),
     ?assertEqual(lists:sort([{A, B} || A <- Others, B <- Others, A =/= B]), heard(<<"100">>, #{<<"a">> => G})),
-    %% Copies and acknowledgements may still be under way.
+    %% Copies and acknowledgements may still be in flight.
     timer:sleep(1000),
     ?assertEqual(lists:sort([{A, B} || A <- Others, B <- Others, A =/= B]), heard(<<"100">>, #{<<"a">> => G})),
     ?assertEqual(2, length(gateway:contexts(lists:seq(1, 60), G))).

@@ -246,7 +246,7 @@ its_priority_test() ->
 %% `serves': the node's number in the order in which nodes began to serve, or 0.
 -record(node, {core = ended, permit = free, clock, has = [], pending = [], limit = none, serves = 0, hangs = 0,
                open = false, seen = 0}).
-%% `cut': the directions in which nothing arrives. `wire': the messages under way, oldest first.
+%% `cut': the directions in which nothing arrives. `wire': the messages in flight, oldest first.
 -record(pair, {now = 0, nodes, lease = a, connected = true, cut = [], wire = [], changes = 0, answered = [],
                broken = [], runs = 0, served = 0}).
 
@@ -301,7 +301,7 @@ act_one({ask, Asked}, Name, Pair = #pair{now = Now, cut = Cut, wire = Wire}) ->
     Pair#pair{wire = Wire ++ [{Name, Name, {gone, Asked}, Now + 2} || Cut =:= [], not is_up(other(Name), Pair)]};
 act_one(_, _, Pair) -> Pair.
 
-%% Disconnects the nodes. Messages that are under way still arrive, unless the network is cut. Afterwards, both nodes
+%% Disconnects the nodes. Messages in flight still arrive, unless the network is cut. Afterwards, both nodes
 %% learn of the disconnection.
 disconnected(_, Pair = #pair{connected = false}) -> Pair;
 disconnected(Name, Pair = #pair{wire = Wire, now = Now}) ->

@@ -55,7 +55,7 @@ listener(Room, Id, Role) ->
     Caller.
 
 %% Returns whether any packets arrive, and how many packets with speech arrive within this many milliseconds. Packets
-%% that are already under way don't count. On a busy machine, packets may take a while.
+%% that are already in flight don't count. On a busy machine, packets may take a while.
 heard(Caller, Ms) ->
     timer:sleep(40),
     caller:reset(Caller),

@@ -73,7 +73,7 @@ a_datagram_to_a_new_room_test_() ->
 two_datagrams_test_() ->
     searched(#{joined => ?APART, changes => {1, [move]}, faults => {2, [lose, double, late, kill_room]}}).
 
-%% The answer may be under way when the room asks again.
+%% The answer may be in flight when the room asks again.
 an_impatient_room_test_() ->
     searched(#{joined => [], rooms => [<<"1">>], changes => {2, [join]}, faults => {1, [early]}}).
 

@@ -13,7 +13,7 @@
 
 new() -> lobby_transactions:new({17, 2945}, 2, ?OPTIONS).
 
-%%% The network has messages under way to the gateway, and the numbers of replies under way from the gateway, with the
+%%% The network has messages in flight to the gateway, and the numbers of replies in flight from the gateway, with the
 %%% times when they were sent.
 -record(net, {t = new(), now = 0, requests = [], replies = [], kept = [], runs = #{}, submitted = 0, answered = [], lost = false, held = false}).
 

@@ -4,7 +4,7 @@
 %% Between any two events, a change can be requested, and a process can be killed. A gateway can end, and restart empty
 %% or from its journal. The other node of a pair can take over. A datagram can be lost, duplicated, or delayed for long.
 %% Messages arrive in the order in which they were sent, except for a few that overtake others. Timers expire only when
-%% no message is under way, so nothing waits without a reason; but the timers of rooms and members may expire early.
+%% no message is in flight, so nothing waits without a reason; but the timers of rooms and members may expire early.
 -module(lobby_world).
 
 -export([start/1, model/1, format/1]).
@@ -47,7 +47,7 @@
                 sent = [] :: [{atom(), binary(), integer() | infinity}],
                 %% The highest number among the messages that a gateway has run. The gateway's journal keeps it.
                 fences = #{} :: #{atom() => pos_integer()},
-                %% The messages under way between processes (and `net'), in order.
+                %% The messages in flight between processes (and `net'), in order.
                 queues = #{} :: #{{From :: term(), To :: term()} => [term()]},
                 %% The number of each person's calls. The addresses to which the phones send.
                 calls = #{} :: #{atom() => pos_integer()},
@@ -106,7 +106,7 @@ serving(World0) ->
         false -> serving(step(hd(timeouts(World)), World))
     end.
 
-%% Delivers messages until none is under way. Fails if that takes too many steps.
+%% Delivers messages until none is in flight. Fails if that takes too many steps.
 settled(World) -> settled(World, 500).
 
 settled(_, 0) -> error(never_settles);
@@ -333,7 +333,7 @@ fault({double, Key}, W = #world{queues = Queues}) ->
 fault({late, Key = {_, {net, G}}}, W = #world{queues = Queues, late = Late, now = Now}) ->
     #{Key := [First | _]} = Queues,
     fault({lose, Key}, W#world{late = [{G, First, Now + ?QUIET} | Late]});
-%% A timer expires before the messages under way have arrived. The time doesn't change.
+%% A timer expires before the messages in flight have arrived. The time doesn't change.
 fault({early, {timer, Key}}, W = #world{timers = Timers}) ->
     ran_out(Key, W#world{timers = maps:remove(Key, Timers)});
 fault({early, Again}, W) ->
@@ -699,7 +699,7 @@ rooms(Id, #world{store = Store, options = Options = #{rooms := All}, promises = 
         {#{}, _} -> All
     end.
 
-%% A walk may end while messages are under way. If no gateway is left, some always are.
+%% A walk may end while messages are in flight. If no gateway is left, some always are.
 at_rest(_, 0) -> [];
 at_rest(W, Left) ->
     case deliveries(W) ++ timeouts(W) of

@@ -315,7 +315,7 @@ class Intervals(Commands):
             self.ends(status, answer, "", "heard", *words, text=text)
 
     def test_counted_ticks(self):
-        """A line with a number counts as that many lines `tick`."""
+        """A line with a number counts as that many `tick` lines."""
         mark = "# counted ticks\n"
         text = (
             TITLE + mark + date(20) + PAIR + "ticks 2\n" + PART + "ticks 1\n# missed 2 ticks\nticks 2\ntick\n"
@@ -326,7 +326,7 @@ class Intervals(Commands):
         for words in (["--format=csv"], ["--format=json"], ["--never=RTP/2 -> RTP/1"], ["--listener=RTP/1"]):
             wanted = run("heard", *words, text=plain)
             self.assertEqual((wanted[2], run("heard", *words, text=text)), ("", wanted))
-        # A year, or almost 2^64 ticks, take one step.
+        # A year of ticks takes a single step, and so do almost 2^64 ticks.
         year = f"ticks {365 * 86400 * 50}\n"
         for count, lines in ((365 * 86400 * 50, year), (2**64 - 2, f"ticks {2**64 - 2}\n")):
             answer = f"RTP/1 could hear RTP/2 in context 1 from tick 1 until tick {count + 1}\n"

@@ -32,7 +32,7 @@ def title_of(lines):
 
 
 def uncounted(line):
-    """The line, or as many lines `tick` as it counts."""
+    """The line, or as many `tick` lines as it counts."""
     return ["tick"] * int(line.removeprefix("ticks ")) if line.startswith("ticks ") else [line]
 
 

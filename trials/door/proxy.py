@@ -104,7 +104,7 @@ class Proxied(Door):
             link(name, router, [f"{network}.1/24"], self.homes[name], [f"{network}.2/24"])
             self.homes[name].run("ip", "route", "add", "default", "via", f"{network}.1")
         router.run("sysctl", "-qw", "net.ipv4.ip_forward=1")
-        # Each socket behind it gets another port.
+        # The router maps each socket behind it to a random port.
         router.run("iptables", "-t", "nat", "-A", "POSTROUTING", "-o", "out1", "-j", "MASQUERADE", "--random-fully")
         self.proxy.start("rtpengine.log", "rtpengine", "--foreground", "--log-stderr", "--pidfile", self.folder / "rtpengine.pid",
                          "--config-file", RECIPE / "rtpengine.conf")

@@ -214,8 +214,8 @@ act(Action, Leg) ->
     _ = [self() ! {lobby_room, Room, {admitted, Error}} || {admitted, Room, Error} <- [lobby_member:act(Action)]],
     Leg.
 
-%% Answers a POST that failed. A member who was never relayed leaves the room, unless another POST has replaced this
-%% one. A member who was relayed stays, and the browser sends another POST.
+%% Answers a POST that failed. A member whose media was never relayed leaves the room, unless another POST has replaced
+%% this one. A member whose media was relayed stays, and the browser sends another POST.
 refused(_, Leg = #leg{post = none}) -> Leg;
 refused(Error, Leg = #leg{post = {Id, From, _, _}, began = Began}) ->
     ok = relay(ended, Id, #{command => delete}),

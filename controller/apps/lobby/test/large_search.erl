@@ -1,4 +1,4 @@
-%% Searches large worlds for a given time, for `trials/door/search.sh': breadth first, and in random walks. Prints the
+%% Searches large worlds for a given time, for `trials/controller/search.sh': breadth first, and in random walks. Prints the
 %% seeds of the walks.
 -module(large_search).
 

@@ -6,7 +6,7 @@ It needs the Debian package baresip-core.
 import time
 
 from baresips import Baresip
-from door import Door, check, finish, until
+from lobby import Lobby, check, finish, until
 from loopback import end_on_signals
 
 TONES = {"customer": 2000, "agent": 400, "coach": 1000}
@@ -14,19 +14,19 @@ TONES = {"customer": 2000, "agent": 400, "coach": 1000}
 
 def main():
     end_on_signals()
-    with Door() as door:
-        baresips = [Baresip(door.folder, name, pitch, f"sip:100@127.0.0.1:{door.sip}", 14) for name, pitch in TONES.items()]
-        all_in = until(lambda: len(door.members("100")) == 3)
+    with Lobby() as lobby:
+        baresips = [Baresip(lobby.folder, name, pitch, f"sip:100@127.0.0.1:{lobby.sip}", 14) for name, pitch in TONES.items()]
+        all_in = until(lambda: len(lobby.members("100")) == 3)
         began = time.monotonic()
         time.sleep(3)
-        ids = {name: member["id"] for name, member in ((key.partition("@")[0][4:], m) for key, m in door.members("100").items())}
+        ids = {name: member["id"] for name, member in ((key.partition("@")[0][4:], m) for key, m in lobby.members("100").items())}
         for name in TONES:
-            door.ask("POST", f"/members/{ids[name]}/role", {"role": name})
-        door.ask("PUT", "/rooms/100", {"preset": "coaching"})
+            lobby.ask("POST", f"/members/{ids[name]}/role", {"role": name})
+        lobby.ask("PUT", "/rooms/100", {"preset": "coaching"})
         coached = time.monotonic()
         time.sleep(3)
         start = time.monotonic()
-        door.ask("POST", f"/members/{ids['customer']}/isolate")
+        lobby.ask("POST", f"/members/{ids['customer']}/isolate")
         isolated = time.monotonic()
         took = isolated - start
         for baresip in baresips:

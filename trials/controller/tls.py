@@ -7,13 +7,13 @@ import subprocess
 import time
 
 from baresips import Baresip
-from door import Door, check, finish, free_addresses, until
+from lobby import Lobby, check, finish, free_addresses, until
 from loopback import end_on_signals
 
 TONES = {"one": 400, "two": 1000, "three": 2000}
 
 
-class Secured(Door):
+class Secured(Lobby):
     """A controller with a self-signed certificate."""
 
     def configure(self, slots, returns, options):
@@ -26,18 +26,18 @@ class Secured(Door):
 
 def main():
     end_on_signals()
-    with Secured() as door:
+    with Secured() as lobby:
         # The controller's httpd can fail if it gets a request before it has started.
-        before = (door.folder / "log").stat().st_size
-        uris = {name: f"sip:100@127.0.0.1:{door.tls};transport=tls" for name in ("one", "two")} | {"three": f"sip:100@127.0.0.1:{door.sip}"}
-        baresips = [Baresip(door.folder, name, pitch, uris[name], 12) for name, pitch in TONES.items()]
-        all_in = until(lambda: len(door.members("100")) == 3)
+        before = (lobby.folder / "log").stat().st_size
+        uris = {name: f"sip:100@127.0.0.1:{lobby.tls};transport=tls" for name in ("one", "two")} | {"three": f"sip:100@127.0.0.1:{lobby.sip}"}
+        baresips = [Baresip(lobby.folder, name, pitch, uris[name], 12) for name, pitch in TONES.items()]
+        all_in = until(lambda: len(lobby.members("100")) == 3)
         began = time.monotonic()
         time.sleep(4)
-        ids = {key.partition("@")[0][4:]: member["id"] for key, member in door.members("100").items()}
-        door.ask("POST", f"/members/{ids['one']}/hang_up")
+        ids = {key.partition("@")[0][4:]: member["id"] for key, member in lobby.members("100").items()}
+        lobby.ask("POST", f"/members/{ids['one']}/hang_up")
         hung_up = time.monotonic()
-        left = until(lambda: len(door.members("100")) == 2, 5)
+        left = until(lambda: len(lobby.members("100")) == 2, 5)
         for baresip in baresips:
             baresip.process.wait()
         ended = time.monotonic()
@@ -46,7 +46,7 @@ def main():
               said == {"two": {400, 2000}, "three": {400, 1000}})
         check(f"one is hung up: {left is not None}, and its log says so: {baresips[0].said('terminated') or baresips[0].said('closed')}",
               left is not None and (baresips[0].said("terminated") or baresips[0].said("closed")))
-        log = (door.folder / "log").read_text()[before:]
+        log = (lobby.folder / "log").read_text()[before:]
         check("no crash report in the log", "CRASH REPORT" not in log)
     finish()
 

@@ -20,7 +20,7 @@ import time
 import urllib.request
 from pathlib import Path
 
-from door import ROOT, TOKEN, Gateway, Phone, Phones, check, finish, loudness, until
+from lobby import ROOT, TOKEN, Gateway, Phone, Phones, check, finish, loudness, until
 from loopback import end_on_signals
 
 VIP, OUTSIDE = "192.0.2.20", "192.0.2.10"

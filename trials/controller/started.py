@@ -10,7 +10,7 @@ import socket
 import subprocess
 import time
 
-from door import ROOT, check, finish, until
+from lobby import ROOT, check, finish, until
 from loopback import end_on_signals
 
 

@@ -20,7 +20,7 @@ from selenium.webdriver.chrome.service import Service
 from selenium.webdriver.common.action_chains import ActionChains
 from selenium.webdriver.common.keys import Keys
 
-from door import Door, Gateway, Phone, Phones, Relay, check, finish, free_addresses, loudness, until
+from lobby import Lobby, Gateway, Phone, Phones, Relay, check, finish, free_addresses, loudness, until
 from loopback import end_on_signals
 
 FIRST, SECOND, COACH, CUSTOMER, GUEST = PITCHES = (400, 1600, 1000, 2200, 2800)
@@ -49,9 +49,9 @@ addEventListener("click", () => marks.click ??= now(), true);"""
 class Browser:
     """A tab that plays a tone."""
 
-    def __init__(self, door, pitch, amplitude=8000):
-        self.door, self.pitch = door, pitch
-        path = door.folder / f"{pitch}.wav"
+    def __init__(self, lobby, pitch, amplitude=8000):
+        self.lobby, self.pitch = lobby, pitch
+        path = lobby.folder / f"{pitch}.wav"
         with wave.open(str(path), "wb") as out:
             out.setparams((1, 2, 48000, 0, "NONE", ""))
             out.writeframes(b"".join(round(amplitude * math.sin(2 * math.pi * pitch * n / 48000)).to_bytes(2, "little", signed=True) for n in range(480000)))
@@ -71,7 +71,7 @@ class Browser:
         return self.driver.find_element("tag name", "body").text.replace("\u2068", "").replace("\u2069", "")
 
     def opens(self, token):
-        for url in ("about:blank", f"http://127.0.0.1:{self.door.http}/join#{token}"):
+        for url in ("about:blank", f"http://127.0.0.1:{self.lobby.http}/join#{token}"):
             self.driver.get(url)
 
     def keys(self, *keys):
@@ -105,7 +105,7 @@ class Symmetric(Gateway):
         return ["--symmetric-rtp"]
 
 
-class Site(Door):
+class Site(Lobby):
     def gateway(self, number, slots, journal):
         return Symmetric(self.folder, f"g{number}", slots, journal)
 
@@ -149,17 +149,17 @@ class Tabs:
               took is not None and all(FIRST in pitches and SECOND not in pitches for pitches in heard))
 
 
-def trial(door, relay, coach, customer, more):
-    loop = Phones(Phone(door, "100", pitch, 4000) for pitch in (FIRST, SECOND))
+def trial(lobby, relay, coach, customer, more):
+    loop = Phones(Phone(lobby, "100", pitch, 4000) for pitch in (FIRST, SECOND))
     loop.call()
     threading.Thread(target=lambda: loop.run(1e9), daemon=True).start()
     first, second = loop.phones
 
     def link(name, role, seconds=600):
-        return door.ask("POST", "/links", {"room": "100", "name": name, "role": role, "seconds": seconds})
+        return lobby.ask("POST", "/links", {"room": "100", "name": name, "role": role, "seconds": seconds})
 
     def act(name, action, body=None):
-        door.ask("POST", f"/members/{door.members('100')[name]['id']}/{action}", body)
+        lobby.ask("POST", f"/members/{lobby.members('100')[name]['id']}/{action}", body)
 
     def expect(what, wanted, settle=0.5):
         time.sleep(settle)
@@ -180,7 +180,7 @@ def trial(door, relay, coach, customer, more):
     every = {pitch: four - {pitch} for pitch in four}
     expect("all hear all", every, 2)
     times = [coach.value("heard.find(row => Math.max(row[1], row[2]) > -60)[0] - marks.click")]
-    door.ask("PUT", "/rooms/100", {"preset": "coaching"})
+    lobby.ask("PUT", "/rooms/100", {"preset": "coaching"})
     coached = {**every, CUSTOMER: {FIRST, SECOND}}
     expect("the customer doesn't hear the coach", coached)
     at = time.monotonic()
@@ -223,7 +223,7 @@ def trial(door, relay, coach, customer, more):
     print(f"rtpengine is killed and started: both browsers hear again after {heard:.1f} s")
     tabs.check("after rtpengine's restart")
     expect("after rtpengine's restart", quiet)
-    gateway = door.gateways[int(door.ask("GET", "/rooms/100")["gateway"][1:])]
+    gateway = lobby.gateways[int(lobby.ask("GET", "/rooms/100")["gateway"][1:])]
     gateway.kill()
     time.sleep(0.3)
     heard = 0.3 + until(lambda: customer.hears(0.2) >= {FIRST}, 30)
@@ -231,10 +231,10 @@ def trial(door, relay, coach, customer, more):
     tabs.check("on the other gateway")
     expect("on the other gateway", quiet)
     gateway.start()
-    door.process.kill()
-    door.process.wait()
-    door.start()
-    until(lambda: len(door.members("100")) == 12)
+    lobby.process.kill()
+    lobby.process.wait()
+    lobby.start()
+    until(lambda: len(lobby.members("100")) == 12)
     tabs.check("the controller is killed and started")
     expect("the controller is killed and started", quiet)
     check("no packet to the other phone has the isolated phone's tone", SECOND not in phone_hears(first, since, 1, 1000))
@@ -249,7 +249,7 @@ def trial(door, relay, coach, customer, more):
     coach.opens(links["coach"]["link"])
     coach.press("join")
     check("UDP is blocked: the page says so", coach.says("No way for the sound was found: a firewall may block UDP.", 30))
-    turn = turn_server(door.folder)
+    turn = turn_server(lobby.folder)
     try:
         time.sleep(1)
         coach.press("join")
@@ -270,7 +270,7 @@ def trial(door, relay, coach, customer, more):
     time.sleep(1.2)
     coach.opens(late)
     check("an expired link", coach.says("The link has expired."))
-    door.ask("POST", "/rooms/100/lock")
+    lobby.ask("POST", "/rooms/100/lock")
     coach.opens(link("late", "member")["link"])
     coach.press("join")
     check("a locked room", coach.says("The room is locked."))
@@ -279,20 +279,20 @@ def trial(door, relay, coach, customer, more):
     coach.press("join")
     check("no microphone", coach.says("The browser isn't allowed to use a microphone."))
     customer.keys(Keys.TAB, Keys.ENTER)
-    check("he hangs up", until(lambda: "customer" not in door.members("100"), 5) is not None)
+    check("he hangs up", until(lambda: "customer" not in lobby.members("100"), 5) is not None)
 
 
 def main():
     end_on_signals()
     port, = free_addresses(1)
     turn = '[#{urls => <<"turn:127.0.0.3:3478?transport=tcp">>, username => <<"a">>, credential => <<"b">>}]'
-    with Site(gateways=2, store="disc", rtpengine=f"{{{{127,0,0,1}},{port}}}", ice_servers=turn) as door:
-        relay = Relay(door.folder, port)
+    with Site(gateways=2, store="disc", rtpengine=f"{{{{127,0,0,1}},{port}}}", ice_servers=turn) as lobby:
+        relay = Relay(lobby.folder, port)
         browsers = []
         try:
-            browsers += [Browser(door, COACH), Browser(door, CUSTOMER), Browser(door, GUEST, 1000)]
-            until(lambda: door.ask("GET", "/gateways")["rtpengine"] == "serving")
-            trial(door, relay, *browsers)
+            browsers += [Browser(lobby, COACH), Browser(lobby, CUSTOMER), Browser(lobby, GUEST, 1000)]
+            until(lambda: lobby.ask("GET", "/gateways")["rtpengine"] == "serving")
+            trial(lobby, relay, *browsers)
         finally:
             relay.kill()
             for browser in browsers:

@@ -12,7 +12,7 @@ from pathlib import Path
 from types import SimpleNamespace
 from urllib.request import Request, urlopen
 
-from door import ROOT, Phone, Phones, check, finish, until
+from lobby import ROOT, Phone, Phones, check, finish, until
 from gateways import both_alive, soon
 from loopback import end_on_signals
 from system import System, ran
@@ -44,8 +44,8 @@ class Caller:
     """Two phones in a room, in the container's network."""
 
     def __init__(self):
-        door = SimpleNamespace(sip=5060, host=HERE)
-        self.phones = [Phone(door, "100", pitch, 4000) for pitch in (400, 1000)]
+        lobby = SimpleNamespace(sip=5060, host=HERE)
+        self.phones = [Phone(lobby, "100", pitch, 4000) for pitch in (400, 1000)]
         self.loop = Phones(self.phones)
         self.times = self.loop.call()
 

@@ -8,7 +8,7 @@ usage: drain.py [ROUNDS]
 import sys
 import time
 
-from door import Door, Phone, Phones, check, finish, loudness
+from lobby import Lobby, Phone, Phones, check, finish, loudness
 from loopback import end_on_signals
 
 ROOMS, CALLERS, LOUD = 10, 10, 100
@@ -17,14 +17,14 @@ ROOMS, CALLERS, LOUD = 10, 10, 100
 class Room:
     """Callers in a room. The first two are isolated."""
 
-    def __init__(self, door, name):
+    def __init__(self, lobby, name):
         self.name = name
-        self.phones = [Phone(door, name, 300 + 250 * n) for n in range(CALLERS)]
+        self.phones = [Phone(lobby, name, 300 + 250 * n) for n in range(CALLERS)]
 
-    def isolate(self, door):
-        members = door.members(self.name)
+    def isolate(self, lobby):
+        members = lobby.members(self.name)
         for phone in self.phones[:2]:
-            door.ask("POST", f"/members/{members[phone.name]['id']}/isolate")
+            lobby.ask("POST", f"/members/{members[phone.name]['id']}/isolate")
 
     def gap(self):
         """The longest time in which a caller hears nothing of another caller's tone, with 20 ms for each packet."""
@@ -43,8 +43,8 @@ class Room:
                    for phone in self.phones for _, payload in phone.heard)
 
 
-def gateway_of(door, room):
-    return door.ask("GET", f"/rooms/{room.name}")["gateway"]
+def gateway_of(lobby, room):
+    return lobby.ask("GET", f"/rooms/{room.name}")["gateway"]
 
 
 def wait(loop, holds, limit):
@@ -57,23 +57,23 @@ def wait(loop, holds, limit):
     return None
 
 
-def upgrade(door, gateway, rooms, loop):
-    on = [room for room in rooms if gateway_of(door, room) == gateway.name]
+def upgrade(lobby, gateway, rooms, loop):
+    on = [room for room in rooms if gateway_of(lobby, room) == gateway.name]
     loop.forget()
     start = time.monotonic()
-    door.ask("POST", f"/gateways/{gateway.name}/drain")
-    took = wait(loop, lambda: any(g["name"] == gateway.name and g["terminations"] == 0 for g in door.ask("GET", "/gateways")["gateways"]), 30)
+    lobby.ask("POST", f"/gateways/{gateway.name}/drain")
+    took = wait(loop, lambda: any(g["name"] == gateway.name and g["terminations"] == 0 for g in lobby.ask("GET", "/gateways")["gateways"]), 30)
     loop.run(1)
     gaps = [room.gap() for room in on]
     leaked, packets = sum(room.leaks() for room in rooms), sum(len(phone.heard) for room in rooms for phone in room.phones)
     gateway.kill()
     loop.forget()
     gateway.start()
-    door.ask("POST", f"/gateways/{gateway.name}/resume")
-    serving = wait(loop, lambda: all(not g["draining"] for g in door.ask("GET", "/gateways")["gateways"]), 10)
+    lobby.ask("POST", f"/gateways/{gateway.name}/resume")
+    serving = wait(loop, lambda: all(not g["draining"] for g in lobby.ask("GET", "/gateways")["gateways"]), 10)
     lost = max(room.gap() for room in rooms)
     talking = sum(phone.state == "talking" for room in rooms for phone in room.phones)
-    members = sum(len(door.members(room.name)) for room in rooms)
+    members = sum(len(lobby.members(room.name)) for room in rooms)
     check(f"{gateway.name}: {len(on)} of {len(rooms)} rooms moved within {took and round(took, 1)} s; gaps {1000 * min(gaps, default=0):.0f} to "
           f"{1000 * max(gaps, default=0):.0f} ms; ended and started again: gaps {1000 * lost:.0f} ms at most; of {packets} packets, {leaked} have "
           f"somebody isolated; {talking} of {ROOMS * CALLERS} callers and {members} members are left",
@@ -84,17 +84,17 @@ def upgrade(door, gateway, rooms, loop):
 def main():
     end_on_signals()
     rounds = int(sys.argv[1]) if len(sys.argv) > 1 else 1
-    with Door(gateways=2, slots=128) as door:
-        rooms = [Room(door, f"{n}") for n in range(ROOMS)]
+    with Lobby(gateways=2, slots=128) as lobby:
+        rooms = [Room(lobby, f"{n}") for n in range(ROOMS)]
         loop = Phones([phone for room in rooms for phone in room.phones])
         loop.call()
         for room in rooms:
-            room.isolate(door)
+            room.isolate(lobby)
         loop.run(1)
         gaps = []
         for n in range(rounds):
-            for gateway in door.gateways:
-                gaps += upgrade(door, gateway, rooms, loop)
+            for gateway in lobby.gateways:
+                gaps += upgrade(lobby, gateway, rooms, loop)
         print(f"{len(gaps)} moves of a room: gaps {1000 * sorted(gaps)[len(gaps) // 2]:.0f} ms at the median, {1000 * max(gaps):.0f} at most")
     finish()
 

@@ -160,7 +160,7 @@ class Relay:
     close = kill
 
 
-class Door:
+class Lobby:
     """Gateways and a controller."""
     host = "127.0.0.1"
     # All phones have one address, which is admitted like a proxy for many callers.
@@ -268,10 +268,10 @@ class Phone:
     """A caller. It answers requests, and keeps what it hears."""
     count = 0
 
-    def __init__(self, door, room, pitch, amplitude=400):
+    def __init__(self, lobby, room, pitch, amplitude=400):
         Phone.count += 1
-        self.name, self.door, self.room, self.pitch = f"phone{Phone.count}", door, room, pitch
-        self.host = door.host
+        self.name, self.lobby, self.room, self.pitch = f"phone{Phone.count}", lobby, room, pitch
+        self.host = lobby.host
         self.sip, self.rtp = udp(address=self.host), udp(address=self.host)
         self.frame = tone(pitch, amplitude)
         self.call_id, self.tag, self.number, self.to_tag = f"{os.urandom(6).hex()}@trial", os.urandom(4).hex(), 0, ""
@@ -285,7 +285,7 @@ class Phone:
     def request(self, method, body=""):
         self.number += method != "ACK"
         own, to = self.sip.getsockname()[1], f";tag={self.to_tag}" if self.to_tag else ""
-        text = (f"{method} sip:{self.room}@{self.host}:{self.door.sip} SIP/2.0\r\n"
+        text = (f"{method} sip:{self.room}@{self.host}:{self.lobby.sip} SIP/2.0\r\n"
                   f"Via: SIP/2.0/UDP {self.host}:{own};branch=z9hG4bK{os.urandom(6).hex()};rport\r\nMax-Forwards: 70\r\n"
                   f"From: \"{self.name}\" <sip:{self.name}@{self.host}>;tag={self.tag}\r\nTo: <sip:{self.room}@{self.host}>{to}\r\n"
                   f"Call-ID: {self.call_id}\r\nCSeq: {self.number} {method}\r\nContact: <sip:{self.name}@{self.host}:{own}>\r\n"
@@ -295,7 +295,7 @@ class Phone:
             self.asked, self.again = (text, time.monotonic()), time.monotonic() + 0.5
 
     def send(self, text):
-        self.sip.sendto(text.encode(), (self.host, self.door.sip))
+        self.sip.sendto(text.encode(), (self.host, self.lobby.sip))
 
     def call(self):
         self.state = "new"

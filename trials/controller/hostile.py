@@ -15,7 +15,7 @@ import subprocess
 import sys
 import time
 
-from door import Door, Phone, Phones, Relay, check, finish, free_addresses, spread
+from lobby import Lobby, Phone, Phones, Relay, check, finish, free_addresses, spread
 from garbage import changed, http, joining, sip, size
 from loopback import end_on_signals
 
@@ -25,7 +25,7 @@ BOMBS = [("Contact", "<sip:a@b>", 5800), ("Contact", "<sip:a@b>", 140), ("Route"
          ("Accept", "a", 150), ("Authorization", 'Digest a="b"', 140), ("Record-Route", "<sip:a@b;lr>", 70), ("To", '"' * 7800, 1)]
 
 
-class Guarded(Door):
+class Guarded(Lobby):
     """A controller with default limits on messages, higher ones on calls and rooms, and no checks of silent callers."""
     limits = ("{max_calls_from, 250}, {max_rooms_from, 40}, {silent_after, 3600000}, "
               "{tls, #{certificate => \"certificate.pem\", key => \"key.pem\", sip => {{127,0,0,1},%d}}}")
@@ -151,10 +151,10 @@ def below():
 
 
 @contextlib.contextmanager
-def attacker(door, link):
+def attacker(lobby, link):
     """A program that attacks."""
-    process = subprocess.Popen([sys.executable, __file__, "attack", str(door.sip), str(door.tls), str(door.http), link],
-                               stdout=open(door.folder / "sent", "w"),
+    process = subprocess.Popen([sys.executable, __file__, "attack", str(lobby.sip), str(lobby.tls), str(lobby.http), link],
+                               stdout=open(lobby.folder / "sent", "w"),
                                preexec_fn=below)
     try:
         yield
@@ -166,11 +166,11 @@ def attacker(door, link):
 class Watch:
     """Calls that are made and ended during the attack, one after the other, and how long each answer took."""
 
-    def __init__(self, door, loop):
-        self.door, self.loop, self.times, self.failed, self.lost = door, loop, [], 0, 0
+    def __init__(self, lobby, loop):
+        self.lobby, self.loop, self.times, self.failed, self.lost = lobby, loop, [], 0, 0
 
     def once(self):
-        phone = Phone(self.door, "probe", 3000)
+        phone = Phone(self.lobby, "probe", 3000)
         self.loop.__init__([*self.loop.phones, phone])
         phone.call()
         self.loop.run(2, lambda: phone.state != "new")
@@ -192,30 +192,30 @@ def main():
         attack(Target(*sys.argv[2:]))
     minutes = float(sys.argv[1]) if len(sys.argv) > 1 else 60
     port, = free_addresses(1)
-    with Guarded(gateways=3, slots=100, rtpengine=f"{{{{127,0,0,1}},{port}}}") as door, contextlib.closing(Relay(door.folder, port)):
+    with Guarded(gateways=3, slots=100, rtpengine=f"{{{{127,0,0,1}},{port}}}") as lobby, contextlib.closing(Relay(lobby.folder, port)):
         # The controller's httpd can fail if it gets a request before it has started.
-        before = (door.folder / "log").stat().st_size
-        link = door.ask("POST", "/links", {"room": "joined", "role": "participant", "name": "x", "seconds": 86400})["link"]
+        before = (lobby.folder / "log").stat().st_size
+        link = lobby.ask("POST", "/links", {"room": "joined", "role": "participant", "name": "x", "seconds": 86400})["link"]
         if os.sched_getscheduler(0) == os.SCHED_FIFO:
             # Gives this process a higher priority than the controller, so that the trial itself isn't late.
             os.sched_setscheduler(0, os.SCHED_FIFO, os.sched_param(os.sched_getparam(0).sched_priority + 1))
-        quiet = [Quiet(door, f"{n // 10}", 400) for n in range(180)]
-        listeners = [Listener(door, "talk", 400 + 50 * n, 4000) for n in range(20)]
+        quiet = [Quiet(lobby, f"{n // 10}", 400) for n in range(180)]
+        listeners = [Listener(lobby, "talk", 400 + 50 * n, 4000) for n in range(20)]
         loop = Counted(quiet + listeners)
         # Calls no faster than one address is allowed to.
         loop.call(0.025)
         talking = [phone for phone in loop.phones if phone.state == "talking"]
-        watch = Watch(door, loop)
+        watch = Watch(lobby, loop)
         for _ in range(20):
             watch.once()
         loop.run(5)
         # Code that is loaded once is loaded here, before memory is measured.
-        with attacker(door, link):
+        with attacker(lobby, link):
             loop.run(10)
         # Calls whose 200 wasn't acknowledged end after 32 s.
         loop.run(45)
-        sizes = [size(door)]
-        with attacker(door, link):
+        sizes = [size(lobby)]
+        with attacker(lobby, link):
             start = time.monotonic()
             while time.monotonic() - start < 60 * minutes:
                 since = time.monotonic()
@@ -224,26 +224,26 @@ def main():
                 while time.monotonic() - since < min(60, 60 * minutes / 3):
                     watch.once()
                     loop.run(0.5)
-                sizes.append(size(door))
+                sizes.append(size(lobby))
                 late = sum(t > 0.2 for t in watch.times)
                 print(f"{(time.monotonic() - start) / 60:.1f} min: {sizes[-1][0] / 1e6:.1f} MB, {sizes[-1][1]} processes, {sizes[-1][2]} atoms; "
                       f"{len(watch.times)} calls, {late} answered later than 200 ms; lost packets: {sum(p.lost for p in listeners)} of "
                       f"{sum(p.got for p in listeners)}", flush=True)
                 watch.lost += sum(phone.lost for phone in listeners)
         loop.run(45)
-        sizes.append(size(door))
+        sizes.append(size(lobby))
         rank = sorted(watch.times)[int(len(watch.times) * 0.99)]
-        count = int((door.folder / "sent").read_text().split()[-1])
+        count = int((lobby.folder / "sent").read_text().split()[-1])
         print(f"{count} datagrams were sent: {count / (time.monotonic() - start - 45):.0f} a second")
         check(f"{len(talking)} of 200 called, and {len(watch.times)} more: {spread(watch.times)}, {1000 * rank:.1f} at 99 %; {watch.failed} failed",
               len(talking) == 200 and not watch.failed and max(watch.times) < 0.2)
         check(f"{watch.lost} packets were lost", watch.lost == 0)
-        members = sum(len(door.ask("GET", f"/rooms/{room}")["members"]) for room in [*range(18), "talk"])
+        members = sum(len(lobby.ask("GET", f"/rooms/{room}")["members"]) for room in [*range(18), "talk"])
         check(f"{members} of 200 are still in their rooms", members == 200)
         grown = sizes[-1][0] / sizes[0][0]
         check(f"memory grew by {100 * grown - 100:.1f} % from before to after, processes by {sizes[-1][1] - sizes[0][1]}, atoms by {sizes[-1][2] - sizes[0][2]}",
               grown < 1.1 and sizes[-1][2] - sizes[0][2] < 500)
-        log = (door.folder / "log").read_bytes()[before:].decode(errors="replace")
+        log = (lobby.folder / "log").read_bytes()[before:].decode(errors="replace")
         crashes = re.findall(r"(?:CRASH|SUPERVISOR|ERROR) REPORT.*", log)
         check(f"{len(crashes)} crash reports in the log", not crashes)
         if crashes:

@@ -12,7 +12,7 @@ import sys
 import time
 import urllib.error
 
-from door import Door, Phone, Phones, check, finish
+from lobby import Lobby, Phone, Phones, check, finish
 from loopback import end_on_signals
 
 PHONES, ROOMS, ROLES = 12, ["1", "2", "3"], ["customer", "agent", "coach"]
@@ -35,23 +35,23 @@ def hears(listener, talker, rules):
 
 
 class World:
-    def __init__(self, door):
-        self.door, self.changes, self.failures, self.last = door, 0, 0, None
+    def __init__(self, lobby):
+        self.lobby, self.changes, self.failures, self.last = lobby, 0, 0, None
         self.loop = Phones(self.phone(n) for n in range(PHONES))
         # The rules by room; room, role and mute by phone; and whether it isn't known if a change was made.
         self.rules, self.known, self.unsure = {room: [] for room in ROOMS}, {}, False
 
     def phone(self, n):
-        return Phone(self.door, random.choice(ROOMS), 300 + 100 * n, 1500)
+        return Phone(self.lobby, random.choice(ROOMS), 300 + 100 * n, 1500)
 
     def members(self):
         """All members, by the names of their phones, with their rooms."""
-        return {name: (room, member) for room in ROOMS for name, member in self.door.members(room).items()}
+        return {name: (room, member) for room in ROOMS for name, member in self.lobby.members(room).items()}
 
     def ask(self, method, path, body=None):
         """Returns whether the change was made."""
         try:
-            self.door.ask(method, path, body)
+            self.lobby.ask(method, path, body)
             return True
         except urllib.error.HTTPError as error:
             if error.code not in RACES:
@@ -71,7 +71,7 @@ class World:
         self.changes += 1
         phone = random.choice(self.loop.phones)
         # A room that ended has no rules.
-        there = self.door.ask("GET", "/rooms")["rooms"]
+        there = self.lobby.ask("GET", "/rooms")["rooms"]
         self.rules = {room: self.rules[room] if room in there else [] for room in ROOMS}
         room, member = self.members().get(phone.name, (None, None))
         if member is None:
@@ -131,7 +131,7 @@ class World:
         """Ends a gateway or a process of the controller, or suspends a gateway for a while."""
         self.failures += 1
         self.last = "a gateway"
-        gateway = random.choice(self.door.gateways)
+        gateway = random.choice(self.lobby.gateways)
         match random.choice(["comes back", "is lost", "is held up", "process", "process"]):
             case "comes back":
                 gateway.kill()
@@ -147,9 +147,9 @@ class World:
                 gateway.process.send_signal(signal.SIGCONT)
             case _:
                 # If the process that evaluates this ended, so would the trial; if the store ended, so would the node.
-                name, process = random.choice(self.door.processes())
+                name, process = random.choice(self.lobby.processes())
                 self.last = name
-                self.door.evaluate(f'exit(list_to_pid("{process}"), kill).')
+                self.lobby.evaluate(f'exit(list_to_pid("{process}"), kill).')
                 self.loop.run(0.5)
 
     def wanted(self):
@@ -157,8 +157,8 @@ class World:
         hear."""
         rooms, heard = [], {phone.pitch: set() for phone in self.loop.phones}
         pitches = {phone.name: phone.pitch for phone in self.loop.phones}
-        for name in self.door.ask("GET", "/rooms")["rooms"]:
-            room = self.door.ask("GET", f"/rooms/{name}")
+        for name in self.lobby.ask("GET", "/rooms")["rooms"]:
+            room = self.lobby.ask("GET", f"/rooms/{name}")
             if self.unsure:
                 self.rules[name] = [(rule["hears"], rule["talker"], rule["listener"]) for rule in room["rules"]]
                 self.known |= {m["caller"]: {"room": name, "role": m["role"], "muted": m["muted"], "isolated": m["isolated"]} for m in room["members"]}
@@ -182,24 +182,24 @@ class World:
         """Whether the gateways agree with the rules. If a room has a single member, there is nothing to compare."""
         try:
             rooms, self.heard = self.wanted()
-            gateways = {gateway.name: gateway for gateway in self.door.gateways}
+            gateways = {gateway.name: gateway for gateway in self.lobby.gateways}
             return all(len(there) < 2 or flows == gateways[name].flows(context) for name, context, flows, there in rooms)
         except (OSError, KeyError):
             return False  # Something isn't there yet.
 
     def explain(self, pitches):
         """Prints what the controller and the gateways know about these phones' calls."""
-        gateways = {gateway.name: gateway for gateway in self.door.gateways}
+        gateways = {gateway.name: gateway for gateway in self.lobby.gateways}
         members = self.members()
         for gateway in gateways.values():
-            print(f"  {gateway.name} said: {(self.door.folder / f'{gateway.name}.log').read_text()[-1000:]}")
+            print(f"  {gateway.name} said: {(self.lobby.folder / f'{gateway.name}.log').read_text()[-1000:]}")
         for phone in self.loop.phones:
             if phone.pitch in pitches:
                 room, member = members.get(phone.name, (None, {}))
                 print(f"  {phone.pitch}: {phone.state}, sends to {phone.remote}, listens on {phone.rtp.getsockname()}, has just received "
                       f"{len(phone.heard)} packets; {room}: {member}")
                 if room and "termination" in member:
-                    about = self.door.ask("GET", f"/rooms/{room}")
+                    about = self.lobby.ask("GET", f"/rooms/{room}")
                     print("   ", gateways[about["gateway"]].ask(f"Context={about['context']}{{AuditValue=RTP/{member['termination']}"
                                                                 "{Audit{Media}}}").replace("\n", " "))
 
@@ -227,8 +227,8 @@ def main():
     seed = int(sys.argv[2]) if len(sys.argv) > 2 else random.randrange(1 << 32)
     random.seed(seed)
     print(f"seed {seed}", flush=True)
-    with Door(gateways=2, journal=True, returns=1000) as door:
-        world = World(door)
+    with Lobby(gateways=2, journal=True, returns=1000) as lobby:
+        world = World(lobby)
         end, times, shown, unsure = time.monotonic() + 60 * minutes, [], time.monotonic(), 0
         while time.monotonic() < end:
             began = time.monotonic()
@@ -243,9 +243,9 @@ def main():
             if time.monotonic() - shown > 60:
                 shown = time.monotonic()
                 print(f"{world.changes} changes, {world.failures} failures, {len(times)} comparisons, {unsure} of them unsure", flush=True)
-        counts = {name: int(door.metric(f"lobby_{name}_total")) for name in
+        counts = {name: int(lobby.metric(f"lobby_{name}_total")) for name in
                   ("gateway_losses", "gateway_returns", "conferences_kept", "conferences_made_again", "topologies_repaired")}
-        log = (door.folder / "log").read_text()
+        log = (lobby.folder / "log").read_text()
         check(f"{world.changes} changes, {world.failures} failures, {len(times)} comparisons ({unsure} unsure); the controller counts {counts}",
               len(times) > 0)
         print(f"{log.count('CRASH REPORT')} crash reports in the controller's log")

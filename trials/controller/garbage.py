@@ -9,7 +9,7 @@ import socket
 import sys
 import time
 
-from door import TOKEN, Door, Phone, Phones, check, finish
+from lobby import TOKEN, Lobby, Phone, Phones, check, finish
 from loopback import end_on_signals, udp
 
 DATAGRAMS, CONNECTIONS = 4000, 60
@@ -31,10 +31,10 @@ def changed(message):
     return bytes(data[:65000])
 
 
-def sip(door):
+def sip(lobby):
     """A valid message, each time from another caller."""
     method = random.choice(["INVITE", "ACK", "BYE", "CANCEL", "OPTIONS", "UPDATE", "REGISTER", "SIP/2.0"])
-    first = "SIP/2.0 200 OK" if method == "SIP/2.0" else f"{method} sip:none@127.0.0.1:{door.sip} SIP/2.0"
+    first = "SIP/2.0 200 OK" if method == "SIP/2.0" else f"{method} sip:none@127.0.0.1:{lobby.sip} SIP/2.0"
     body = "v=0\r\no=- 1 1 IN IP4 127.0.0.1\r\ns=-\r\nc=IN IP4 127.0.0.1\r\nt=0 0\r\nm=audio 9 RTP/AVP 0\r\n"
     return (f"{first}\r\nVia: SIP/2.0/UDP 127.0.0.1:9;branch=z9hG4bK{random.random()};rport\r\nMax-Forwards: 70\r\n"
             f"From: <sip:x@127.0.0.1>;tag=a{random.random()}\r\nTo: <sip:none@127.0.0.1>\r\nCall-ID: {random.random()}\r\n"
@@ -81,9 +81,9 @@ def connections(port, message):
         one.close()
 
 
-def size(door):
+def size(lobby):
     """Bytes, processes and atoms of the node, after all processes have collected their garbage."""
-    text = door.evaluate("[garbage_collect(P) || P <- processes()], {erlang:memory(total), erlang:system_info(process_count), "
+    text = lobby.evaluate("[garbage_collect(P) || P <- processes()], {erlang:memory(total), erlang:system_info(process_count), "
                          "erlang:system_info(atom_count)}.")
     return [int(number) for number in re.findall(r"\d+", text)]
 
@@ -91,25 +91,25 @@ def size(door):
 def main():
     end_on_signals()
     rounds = int(sys.argv[1]) if len(sys.argv) > 1 else 6
-    with Door(t1=20, callers="[{{127,0,0,1},32}]") as door:
-        phones = [Phone(door, "100", pitch, 4000) for pitch in (400, 1000)]
+    with Lobby(t1=20, callers="[{{127,0,0,1},32}]") as lobby:
+        phones = [Phone(lobby, "100", pitch, 4000) for pitch in (400, 1000)]
         loop = Phones(phones)
         loop.call()
         sizes = []
         for _ in range(rounds):
             for n in range(DATAGRAMS):
                 with udp() as own:
-                    message = random.choice([random.randbytes(random.randint(0, 1500)), changed(sip(door)), changed(sip(door))])
-                    own.sendto(message, ("127.0.0.1", door.sip))
+                    message = random.choice([random.randbytes(random.randint(0, 1500)), changed(sip(lobby)), changed(sip(lobby))])
+                    own.sendto(message, ("127.0.0.1", lobby.sip))
                 if n % 20 == 0:
                     loop.run(0.005)
-            connections(door.sip, lambda: sip(door))
-            connections(door.http, http)
+            connections(lobby.sip, lambda: sip(lobby))
+            connections(lobby.http, http)
             # Calls whose 200 wasn't acknowledged end after 64 times t1.
             loop.run(4)
-            sizes.append(size(door))
+            sizes.append(size(lobby))
             print(f"{DATAGRAMS} datagrams, {2 * CONNECTIONS} connections: {sizes[-1][0] / 1e6:.1f} MB, {sizes[-1][1]} processes, "
-                  f"{sizes[-1][2]} atoms; {len(door.ask('GET', '/rooms')['rooms'])} rooms", flush=True)
+                  f"{sizes[-1][2]} atoms; {len(lobby.ask('GET', '/rooms')['rooms'])} rooms", flush=True)
         loop.run(1)
         both = loop.matrix() == {400: {1000}, 1000: {400}}
         invited = [len(phone.invited) for phone in phones]
@@ -117,10 +117,10 @@ def main():
         check(f"both callers hear each other: {both}; re-INVITEs: {invited}; from the second round to the last, memory grew by "
               f"{100 * grown - 100:.1f} %, processes by {sizes[-1][1] - sizes[1][1]}, atoms by {sizes[-1][2] - sizes[1][2]}",
               both and invited == [0, 0] and grown < 1.05 and abs(sizes[-1][1] - sizes[1][1]) <= 5 and sizes[-1][2] - sizes[1][2] < 50)
-        crashes = (door.folder / "log").read_text().count("CRASH REPORT")
+        crashes = (lobby.folder / "log").read_text().count("CRASH REPORT")
         check(f"{crashes} crash reports in the log", crashes == 0)
         if crashes:
-            text = (door.folder / "log").read_text()
+            text = (lobby.folder / "log").read_text()
             print(text[text.index("CRASH REPORT"):][:1500])
     finish()
 

@@ -9,7 +9,7 @@ import subprocess
 import wave
 from math import pi, sin
 
-from door import Door, Phone, Phones, check, finish, loudness
+from lobby import Lobby, Phone, Phones, check, finish, loudness
 from loopback import end_on_signals, udp
 from tones import RATE, level
 
@@ -44,21 +44,21 @@ class Linphone:
 
 def main():
     end_on_signals()
-    with Door() as door:
-        phone = Phone(door, "100", OTHER)
+    with Lobby() as lobby:
+        phone = Phone(lobby, "100", OTHER)
         phones = Phones([phone])
         phones.call()
 
         def direction():
-            return next((member["direction"] for caller, member in door.members("100").items() if "linphone" in caller), None)
+            return next((member["direction"] for caller, member in lobby.members("100").items() if "linphone" in caller), None)
 
         def is_heard():
             return bool(phone.heard) and loudness(phone.heard[-1][1], OWN) > 1000
 
-        linphone = Linphone(door.folder / "linphone")
+        linphone = Linphone(lobby.folder / "linphone")
         linphone.say("soundcard use files")
         linphone.say(f"record {linphone.recorded}")
-        linphone.say(f"call sip:100@127.0.0.1:{door.sip}")
+        linphone.say(f"call sip:100@127.0.0.1:{lobby.sip}")
         phones.run(10, lambda: direction() == "sendrecv")
         linphone.say(f"play {linphone.tone}")
         phones.run(10, is_heard)
@@ -72,7 +72,7 @@ def main():
         phones.run(3)
         linphone.say("terminate")
         phones.run(10, lambda: direction() is None)
-        check("it hung up: the room has one member", list(door.members("100")) == [phone.name])
+        check("it hung up: the room has one member", list(lobby.members("100")) == [phone.name])
         linphone.say("quit")
         linphone.process.wait(10)
         check("Linphone hears the phone", linphone.heard())

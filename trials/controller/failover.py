@@ -10,7 +10,7 @@ import random
 import sys
 import time
 
-from door import Door, Phone, Phones, check, finish, loudness, spread
+from lobby import Lobby, Phone, Phones, check, finish, loudness, spread
 from loopback import end_on_signals
 
 CALLERS, LOUD = 60, 100
@@ -49,14 +49,14 @@ def leaks(phones, isolated):
     return leaked, sum(len(phone.heard) for phone in phones)
 
 
-def calls(door):
-    phones = [Phone(door, "100", 300 + 50 * n) for n in range(CALLERS)]
+def calls(lobby):
+    phones = [Phone(lobby, "100", 300 + 50 * n) for n in range(CALLERS)]
     loop = Phones(phones)
     times = loop.call()
     isolated = random.sample(phones, 2)
-    members = door.members("100")
+    members = lobby.members("100")
     for phone in isolated:
-        door.ask("POST", f"/members/{members[phone.name]['id']}/isolate")
+        lobby.ask("POST", f"/members/{members[phone.name]['id']}/isolate")
     loop.run(1)
     others = {phone.pitch for phone in phones if phone not in isolated}
     right = {phone.pitch: others - {phone.pitch} if phone not in isolated else set() for phone in phones}
@@ -65,8 +65,8 @@ def calls(door):
     return phones, loop, isolated, right
 
 
-def kill(door, loop, phones, isolated, right, journal):
-    holder = next(g for g in door.gateways if g.name == door.ask("GET", "/rooms/100")["gateway"])
+def kill(lobby, loop, phones, isolated, right, journal):
+    holder = next(g for g in lobby.gateways if g.name == lobby.ask("GET", "/rooms/100")["gateway"])
     loop.run(random.uniform(0.5, 1))
     loop.forget()
     invited = sum(len(phone.invited) for phone in phones)
@@ -93,14 +93,14 @@ def main():
     kills = int(sys.argv[1]) if len(sys.argv) > 1 else 5
     for journal in (False, True) if len(sys.argv) < 3 else (True,):
         print(f"{'With' if journal else 'Without'} a journal:", flush=True)
-        with Door(gateways=2, journal=journal, returns=2000 * journal) as door:
-            phones, loop, isolated, right = calls(door)
-            times = [kill(door, loop, phones, isolated, right, journal) for _ in range(kills)]
+        with Lobby(gateways=2, journal=journal, returns=2000 * journal) as lobby:
+            phones, loop, isolated, right = calls(lobby)
+            times = [kill(lobby, loop, phones, isolated, right, journal) for _ in range(kills)]
             known = [took for took in times if took is not None]
             if known:
                 print(f"{len(known)} kills: {spread(known)}; the controller counts "
-                      f"{door.metric('lobby_gateway_losses_total'):.0f} losses, {door.metric('lobby_gateway_returns_total'):.0f} "
-                      f"returns, {door.metric('lobby_conferences_made_again_total'):.0f} conferences made again", flush=True)
+                      f"{lobby.metric('lobby_gateway_losses_total'):.0f} losses, {lobby.metric('lobby_gateway_returns_total'):.0f} "
+                      f"returns, {lobby.metric('lobby_conferences_made_again_total'):.0f} conferences made again", flush=True)
     finish()
 
 

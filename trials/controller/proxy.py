@@ -11,7 +11,7 @@ import sys
 import time
 
 from baresips import Baresip
-from door import ROOT, TOKEN, Door, Gateway, check, finish, until
+from lobby import ROOT, TOKEN, Lobby, Gateway, check, finish, until
 from loopback import end_on_signals, udp
 
 OUTSIDE, INSIDE, CONTROLLER, GATEWAY, NOBODY = "192.0.2.30", "10.0.0.30", "10.0.0.20", "10.0.0.10", "10.0.0.99"
@@ -74,7 +74,7 @@ class Inside(Gateway):
         return ["--address", GATEWAY, "--symmetric-rtp", "--controller", CONTROLLER]
 
 
-class Proxied(Door):
+class Proxied(Lobby):
     """Gateways, and a controller as in the recipe, in this network; the proxy; and the phones behind their router."""
 
     def __init__(self):
@@ -133,7 +133,7 @@ class Proxied(Door):
         return count
 
 
-def is_closed(door):
+def is_closed(lobby):
     """Whether requests that a phone addresses to other hosts reach nobody."""
     script = "import socket; s = socket.socket(socket.AF_INET, socket.SOCK_DGRAM); "
     for method, tag in (("INVITE", ""), ("OPTIONS", ""), ("BYE", ";tag=1"), ("INFO", ";tag=1"), ("ACK", ";tag=1")):
@@ -142,7 +142,7 @@ def is_closed(door):
                 f"Call-ID: {method}\r\nCSeq: 1 {method}\r\nContact: <sip:x@{NOBODY}:5060>\r\nContent-Length: 0\r\n\r\n")
         script += f"s.sendto({text.encode()!r}, ({OUTSIDE!r}, 5060)); "
     with udp(5060, NOBODY) as nobody:
-        door.homes["rtp"].python(script)
+        lobby.homes["rtp"].python(script)
         time.sleep(1.5)
         try:
             print(f"{NOBODY} got {nobody.recv(65536)}")
@@ -155,25 +155,25 @@ def main():
     end_on_signals()
     if "PROXY_TRIAL" not in os.environ:
         os.execvpe("unshare", ["unshare", "--net", sys.executable, *sys.argv], {**os.environ, "PROXY_TRIAL": ""})
-    with Proxied() as door:
-        phones = [Baresip(door.folder, name, pitch, f"sip:100@{OUTSIDE}{';transport=tcp' if name == 'srtp' else ''}", 120, f"{network}.2",
-                          account, door.homes[name].prefix) for name, (pitch, network, account) in PHONES.items()]
-        took = until(lambda: len(door.members("100")) == 3, 20)
-        calls = door.sessions()
-        check(f"{len(door.members('100'))} callers after {took} s; rtpengine has {calls} calls", calls == 3)
+    with Proxied() as lobby:
+        phones = [Baresip(lobby.folder, name, pitch, f"sip:100@{OUTSIDE}{';transport=tcp' if name == 'srtp' else ''}", 120, f"{network}.2",
+                          account, lobby.homes[name].prefix) for name, (pitch, network, account) in PHONES.items()]
+        took = until(lambda: len(lobby.members("100")) == 3, 20)
+        calls = lobby.sessions()
+        check(f"{len(lobby.members('100'))} callers after {took} s; rtpengine has {calls} calls", calls == 3)
         time.sleep(5)
-        ids = {caller.partition("@")[0][4:]: member["id"] for caller, member in door.members("100").items()}
-        door.ask("POST", f"/members/{ids['rtp']}/isolate")
+        ids = {caller.partition("@")[0][4:]: member["id"] for caller, member in lobby.members("100").items()}
+        lobby.ask("POST", f"/members/{ids['rtp']}/isolate")
         time.sleep(5)
-        first = door.ask("GET", "/rooms/100")["gateway"]
-        door.gateways[int(first) - 1].kill()
-        moved = until(lambda: door.ask("GET", "/rooms/100")["gateway"] not in (first, None), 20)
+        first = lobby.ask("GET", "/rooms/100")["gateway"]
+        lobby.gateways[int(first) - 1].kill()
+        moved = until(lambda: lobby.ask("GET", "/rooms/100")["gateway"] not in (first, None), 20)
         invited = until(lambda: all(phone.said("got re-INVITE") for phone in phones), 10)
         check(f"gateway {first} killed: the conference is on another one after {moved} s; all phones are re-invited: {invited is not None}",
               moved is not None and invited is not None)
         time.sleep(5)
-        check("what a phone addresses to others than the controller reaches nobody", is_closed(door))
-        door.ask("DELETE", "/rooms/100")
+        check("what a phone addresses to others than the controller reaches nobody", is_closed(lobby))
+        lobby.ask("DELETE", "/rooms/100")
         closed = until(lambda: all(phone.said("session closed") for phone in phones), 10)
         check(f"hung up by HTTP: all phones have ended their calls after {closed} s", closed is not None)
         for phone in phones:
@@ -187,7 +187,7 @@ def main():
             heard = {phone.name: {names[pitch] for pitch in phone.heard(names, start, end)} for phone in phones}
             shown = "; ".join(f"{name} hears {' and '.join(sorted(heard[name])) or 'nobody'}" for name in PHONES)
             check(f"{what}: {shown}", heard == wanted)
-        left = until(lambda: door.sessions() == 0, 60)
+        left = until(lambda: lobby.sessions() == 0, 60)
         check(f"rtpengine has forgotten all calls: {left is not None}", left is not None)
     finish()
 

@@ -18,7 +18,7 @@ from selenium.webdriver.chrome.service import Service
 from selenium.webdriver.common.action_chains import ActionChains
 from selenium.webdriver.common.keys import Keys
 
-from door import TOKEN, Door, Phone, Phones, check, finish, spread, until
+from lobby import TOKEN, Lobby, Phone, Phones, check, finish, spread, until
 from loopback import end_on_signals
 
 FOCUS = """const it = document.activeElement;
@@ -39,15 +39,15 @@ BUSY = """window.tasks = []; window.frames_ = []; new PerformanceObserver(list =
 
 
 class Page:
-    def __init__(self, door, width, scheme):
+    def __init__(self, lobby, width, scheme):
         options = Options()
         for word in ("--headless=new", "--no-sandbox", "--disable-gpu", "--window-size=1280,1100"):
             options.add_argument(word)
         self.driver = webdriver.Chrome(service=Service("/usr/bin/chromedriver"), options=options)
-        self.door = door
+        self.lobby = lobby
         self.driver.execute_cdp_cmd("Emulation.setDeviceMetricsOverride", {"width": width, "height": 1100, "deviceScaleFactor": 1, "mobile": width < 600})
         self.driver.execute_cdp_cmd("Emulation.setEmulatedMedia", {"features": [{"name": "prefers-color-scheme", "value": scheme}]})
-        self.driver.get(f"http://127.0.0.1:{door.http}/")
+        self.driver.get(f"http://127.0.0.1:{lobby.http}/")
         self.reach("Token")
         self.keys(TOKEN, Keys.ENTER)
 
@@ -102,17 +102,17 @@ def picture(page, name):
         shot.quantize(256).save(f"{sys.argv[1]}/{name}.png", optimize=True)
 
 
-def hour(door, width, scheme):
+def hour(lobby, width, scheme):
     """Creates a room, lets callers in, sets roles, isolates, mutes all, moves, undoes, locks, sets rules, and ends the
     room."""
     what = f"{width} pixels, {scheme}"
-    page = Page(door, width, scheme)
-    loop = Loop(Phone(door, "sales", pitch, 4000) for pitch in (400, 1000, 1600))
+    page = Page(lobby, width, scheme)
+    loop = Loop(Phone(lobby, "sales", pitch, 4000) for pitch in (400, 1000, 1600))
     for phone, name in zip(loop.phones, ("Ann", "Bob", "Carol")):
         phone.name = name
 
     def member(phone):
-        return door.members("sales").get(phone.name) or door.members("break").get(phone.name) or {}
+        return lobby.members("sales").get(phone.name) or lobby.members("break").get(phone.name) or {}
 
     def seen(step, holds, shown=()):
         took = until(lambda: holds() and all(page.shown(text) for text in shown), 15)
@@ -124,7 +124,7 @@ def hour(door, width, scheme):
         page.press("Rules", "coaching")
         page.press("Callers wait", Keys.SPACE)
         page.press("Create")
-        seen("a room is created", lambda: "sales" in door.ask("GET", "/rooms")["rooms"], ["Room sales", "callers wait at the door", "role coach is not heard by role customer"])
+        seen("a room is created", lambda: "sales" in lobby.ask("GET", "/rooms")["rooms"], ["Room sales", "callers wait at the door", "role coach is not heard by role customer"])
         page.press("Invite by a link")
         page.press("Name", "Dora")
         page.reach("Role")
@@ -133,11 +133,11 @@ def hour(door, width, scheme):
         page.press("Invite by a link")
         loop.calling += loop.phones
         first, second, third = loop.phones
-        seen("three wait", lambda: len(door.members("sales")) == 3, [f"{phone.name}" for phone in loop.phones] + ["waits at the door"])
+        seen("three wait", lambda: len(lobby.members("sales")) == 3, [f"{phone.name}" for phone in loop.phones] + ["waits at the door"])
         for phone, role in zip(loop.phones, ("customer", "agent", "coach")):
             page.press(f"Role of {phone.name}", role, Keys.ENTER)
             seen(f"{role} is let in", lambda: (member(phone).get("role"), member(phone).get("waiting")) == (role, False), [f"Let in as {role}"])
-        seen("the customer hears only the agent", lambda: len(door.ask("GET", "/rooms/sales")["flows"]) == 5, ["heard by 1 of 2, hears 2"])
+        seen("the customer hears only the agent", lambda: len(lobby.ask("GET", "/rooms/sales")["flows"]) == 5, ["heard by 1 of 2, hears 2"])
         page.press(f"Isolate {first.name}")
         seen("one is isolated", lambda: member(first)["isolated"], ["isolated", "heard by 0 of 2, hears 0"])
         page.press("Undo")
@@ -154,18 +154,18 @@ def hour(door, width, scheme):
         page.reach(f"Mute {second.name}")
         page.press("More")
         page.press(f"Room to which {second.name}", "break", Keys.ENTER)
-        seen("one is moved", lambda: second.name in door.members("break"), ["Moved to break"])
+        seen("one is moved", lambda: second.name in lobby.members("break"), ["Moved to break"])
         page.press("Undo")
-        seen("the move is undone", lambda: second.name in door.members("sales"))
+        seen("the move is undone", lambda: second.name in lobby.members("sales"))
         page.press("Lock")
-        seen("the room is locked", lambda: door.ask("GET", "/rooms/sales")["locked"], ["locked", "Unlock"])
+        seen("the room is locked", lambda: lobby.ask("GET", "/rooms/sales")["locked"], ["locked", "Unlock"])
         page.press("Undo")
-        seen("it is unlocked", lambda: not door.ask("GET", "/rooms/sales")["locked"])
+        seen("it is unlocked", lambda: not lobby.ask("GET", "/rooms/sales")["locked"])
         page.press("Talker", "everyone")
         page.press("Add rule")
-        seen("nobody hears anybody by a new rule", lambda: door.ask("GET", "/rooms/sales")["flows"] == [], ["everyone is not heard by everyone"])
+        seen("nobody hears anybody by a new rule", lambda: lobby.ask("GET", "/rooms/sales")["flows"] == [], ["everyone is not heard by everyone"])
         page.press("Undo")
-        seen("the rule is removed", lambda: len(door.ask("GET", "/rooms/sales")["flows"]) == 5)
+        seen("the rule is removed", lambda: len(lobby.ask("GET", "/rooms/sales")["flows"]) == 5)
         page.press("Who hears whom", Keys.ARROW_RIGHT)
         seen("a pair is named", lambda: True, [f"{first.name} hears {second.name}"])
         page.press("Search", third.name)
@@ -179,21 +179,21 @@ def hour(door, width, scheme):
         picture(page, f"page-{width}-{scheme}")
         page.press("End")
         page.press("OK")
-        seen("the room is ended", lambda: door.ask("GET", "/rooms")["rooms"] == [], ["Nobody has called yet."])
+        seen("the room is ended", lambda: lobby.ask("GET", "/rooms")["rooms"] == [], ["Nobody has called yet."])
     finally:
         loop.ended = True
         page.driver.quit()
 
 
-def crowd(door):
+def crowd(lobby):
     """64 members who are muted and unmuted 60 times a second, while one is isolated by keyboard."""
-    loop = Loop(Phone(door, "100", 400 + 50 * n) for n in range(64))
+    loop = Loop(Phone(lobby, "100", 400 + 50 * n) for n in range(64))
     for phone in loop.phones:
         loop.calling.append(phone)
         until(lambda: phone.state == "talking")
     last = loop.phones[-1].name
-    ids = [member["id"] for name, member in door.members("100").items() if name != last]
-    page = Page(door, 1280, "light")
+    ids = [member["id"] for name, member in lobby.members("100").items() if name != last]
+    page = Page(lobby, 1280, "light")
     going = True
 
     def change(first):
@@ -201,7 +201,7 @@ def crowd(door):
             if not going:
                 return
             start = time.monotonic()
-            door.ask("POST", f"/members/{ids[n % 63]}/{'mute' if n // 63 % 2 == 0 else 'unmute'}")
+            lobby.ask("POST", f"/members/{ids[n % 63]}/{'mute' if n // 63 % 2 == 0 else 'unmute'}")
             count.append(start)
             time.sleep(max(0, 0.2 - (time.monotonic() - start)))
 
@@ -233,18 +233,18 @@ def crowd(door):
         picture(page, "page-64")
         page.driver.execute_cdp_cmd("Emulation.setDeviceMetricsOverride", {"width": 390, "height": 1100, "deviceScaleFactor": 1, "mobile": True})
         check("nor with 390 pixels", until(lambda: not page.sideways(), 5) is not None)
-        door.gateways[0].kill()
+        lobby.gateways[0].kill()
         check("a killed gateway is awaited", until(lambda: page.shown("Gateway g0: away"), 15) is not None)
-        door.gateways[0].start()
+        lobby.gateways[0].start()
         check("it came back", until(lambda: page.shown("Gateway g0: serving"), 15) is not None)
     finally:
         loop.ended = True
         page.driver.quit()
 
 
-def names(door):
+def names(lobby):
     """Checks how the page shows names that callers give themselves."""
-    page = Page(door, 1280, "light")
+    page = Page(lobby, 1280, "light")
     try:
         shown = page.driver.execute_script("return arguments[0].map(shown);", [
             "Ann", "a\u202eb", "a\u200bb", "\u2066a", "a\nb", "a\u3164b", "x" + "\u0301" * 9, "\u05d0\u05d1", "<b>a</b>", "y" * 100, "\U000e0041a"])
@@ -256,13 +256,13 @@ def names(door):
 
 def main():
     end_on_signals()
-    with Door(rtpengine="{{127,0,0,1},9}") as door:
-        names(door)
+    with Lobby(rtpengine="{{127,0,0,1},9}") as lobby:
+        names(lobby)
         for width in (1280, 390):
             for scheme in ("light", "dark"):
-                hour(door, width, scheme)
-    with Door(journal=True, returns=5000) as door:
-        crowd(door)
+                hour(lobby, width, scheme)
+    with Lobby(journal=True, returns=5000) as lobby:
+        crowd(lobby)
     finish()
 
 

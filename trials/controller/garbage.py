@@ -84,7 +84,7 @@ def connections(port, message):
 def size(lobby):
     """Bytes, processes and atoms of the node, after all processes have collected their garbage."""
     text = lobby.evaluate("[garbage_collect(P) || P <- processes()], {erlang:memory(total), erlang:system_info(process_count), "
-                         "erlang:system_info(atom_count)}.")
+                          "erlang:system_info(atom_count)}.")
     return [int(number) for number in re.findall(r"\d+", text)]
 
 

@@ -11,7 +11,7 @@ import sys
 import time
 
 from baresips import Baresip
-from lobby import ROOT, TOKEN, Lobby, Gateway, check, finish, until
+from lobby import ROOT, TOKEN, Gateway, Lobby, check, finish, until
 from loopback import end_on_signals, udp
 
 OUTSIDE, INSIDE, CONTROLLER, GATEWAY, NOBODY = "192.0.2.30", "10.0.0.30", "10.0.0.20", "10.0.0.10", "10.0.0.99"

@@ -20,7 +20,7 @@ from selenium.webdriver.chrome.service import Service
 from selenium.webdriver.common.action_chains import ActionChains
 from selenium.webdriver.common.keys import Keys
 
-from lobby import Lobby, Gateway, Phone, Phones, Relay, check, finish, free_addresses, loudness, until
+from lobby import Gateway, Lobby, Phone, Phones, Relay, check, finish, free_addresses, loudness, until
 from loopback import end_on_signals
 
 FIRST, SECOND, COACH, CUSTOMER, GUEST = PITCHES = (400, 1600, 1000, 2200, 2800)

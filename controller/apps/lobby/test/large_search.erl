@@ -1,5 +1,5 @@
-%% Searches large worlds for a given time, for `trials/controller/search.sh': breadth first, and in random walks. Prints the
-%% seeds of the walks.
+%% Searches large worlds for a given time, for `trials/controller/search.sh': breadth first, and in random walks. Prints
+%% the seeds of the walks.
 -module(large_search).
 
 -export([run/1]).

@@ -1,6 +1,6 @@
 %% Measures many callers in many rooms on many simulated gateways, with a pair of controllers: how fast callers join,
-%% the resources that this takes, and the durations of a takeover and of a loss of gateways. trials/controller/scale.sh runs
-%% it.
+%% the resources that this takes, and the durations of a takeover and of a loss of gateways. trials/controller/scale.sh
+%% runs it.
 -module(scale).
 
 -export([main/1]).

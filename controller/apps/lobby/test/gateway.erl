@@ -9,14 +9,19 @@
 start() ->
     start([]).
 
-%% Returns an address with a port that is free for both TCP and UDP.
+%% Returns an address with a port that is free for both TCP and UDP. The port is below those that the kernel gives to
+%% sockets without a port of their own, so none of them takes it before the server of a test does.
 free_address() ->
-    {ok, Listener} = gen_tcp:listen(0, [{ip, {127, 0, 0, 1}}]),
-    {ok, Port} = inet:port(Listener),
-    ok = gen_tcp:close(Listener),
-    case gen_udp:open(Port, [{ip, {127, 0, 0, 1}}]) of
-        {ok, Socket} -> ok = gen_udp:close(Socket), {{127, 0, 0, 1}, Port};
-        {error, eaddrinuse} -> free_address()
+    Address = {{127, 0, 0, 1}, 10000 + rand:uniform(9999)},
+    case is_free(gen_tcp, listen, Address) andalso is_free(gen_udp, open, Address) of
+        true -> Address;
+        false -> free_address()
+    end.
+
+is_free(Module, Open, {Ip, Port}) ->
+    case Module:Open(Port, [{ip, Ip}]) of
+        {ok, Socket} -> ok = Module:close(Socket), true;
+        {error, eaddrinuse} -> false
     end.
 
 %% Starts a gateway on free ports.

@@ -12,9 +12,9 @@
 %%
 %% Once a second, it audits one of its terminations on each gateway, or the gateway if there is none. A gateway that
 %% does not answer within 1.2 s is lost; a gateway that answers with an error, such as 411 or 430, has restarted. In
-%% both cases, its conferences are recreated on other gateways, with the same isolations. The controller prints lines
-%% about these events. The `member` lines are for callers: member 3 of conference 1 listens on port 40004, and sends to
-%% port 30004.
+%% both cases, its conferences are recreated on other gateways, or wait until a gateway has room, with the same
+%% isolations. The controller prints lines about these events. The `member` lines are for callers: member 3 of
+%% conference 1 listens on port 40004, and sends to port 30004.
 %%     gateway 127.0.0.1:2944 up
 %%     gateway 127.0.0.1:2944 lost: no answer
 %%     conference 1 on 127.0.0.1:2944 context 1764079200
@@ -172,7 +172,7 @@ isolate({C, Context, Terminations = [T | _]}, Triple = {A, B, How}, G) ->
 check(G = #gateway{own = [{_, Context, [T | _]} | _]}) ->
     case ask([action(Context, ?NONE, [audit(T, [])])], G) of
         {ok, _, _} -> G;
-        {refused, Code, _} -> check(lost(G, ["began anew, error ", integer_to_list(Code)]));
+        {refused, Code, _} -> check(lost(G, ["restarted, error ", integer_to_list(Code)]));
         {gone, _, _} -> lost(G, "no answer")
     end;
 check(G = #gateway{name = Name, up = Up}) ->

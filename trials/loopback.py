@@ -5,7 +5,7 @@ import sys
 
 
 def end_on_signals():
-    """Makes a signal to stop end the trial by an exception, so that the blocks that hold programs and files end,
+    """Makes SIGTERM and SIGHUP end the trial with an exception, so that the blocks that hold programs and files end,
     too."""
     for one in (signal.SIGTERM, signal.SIGHUP):
         signal.signal(one, lambda number, _: sys.exit(128 + number))

@@ -1,7 +1,7 @@
 /* Only receives and sends as many datagrams as a gateway does: the cost of the sockets without the gateway.
    usage: bare CALLERS SLOTS
-   The same lines drive it. In a poll, it receives up to 64 datagrams from each port, and answers those at the control
-   port. In a tick, it sends each caller a packet of 172 bytes. */
+   Lines from mg_pace drive it, as they drive a gateway. In a poll, it receives up to 64 datagrams from each port, and
+   answers those at the control port. In a tick, it sends each caller a packet of 172 bytes. */
 #define _GNU_SOURCE
 #include "loopback.h"
 #include <stdint.h>

@@ -143,7 +143,7 @@ def bursts():
 
 
 def flood():
-    """Floods a gateway that doesn't send the packets of ticks that are 20 ms late."""
+    """Floods a gateway that doesn't send the packets of ticks that are at least 20 ms late."""
     caller, said, heard, answered = udp(), 0, set(), {}
     with Gateway("--late", "0") as gateway:
         to = gateway.conference([caller.getsockname()[1]])[0]

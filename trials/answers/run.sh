@@ -1,5 +1,6 @@
 #!/bin/sh
-# Measures how quickly a gateway answers messages, and checks that it answers them all and delays no tick.
+# Measures how quickly a gateway answers messages, and checks that it answers all messages outside a flood, and loses no
+# packet during the flood.
 # usage: run.sh [--gateway PATH]
 # It needs gcc and python3, and tests the program in dist/, or the one at PATH. It takes a minute and a half.
 set -eu

@@ -144,8 +144,8 @@ def attack(target):
 
 
 def below():
-    """Runs with a lower priority than the controller and the gateways, but above other programs, so that nothing is
-    sent in bursts."""
+    """Under real-time scheduling, runs with a lower priority than the controller and the gateways, but a higher one
+    than other programs, so that nothing is sent in bursts."""
     fifo = os.sched_getscheduler(0) == os.SCHED_FIFO
     os.sched_setscheduler(0, os.SCHED_FIFO if fifo else os.SCHED_OTHER, os.sched_param(int(fifo)))
 

@@ -95,7 +95,7 @@ class Loop(Phones):
 
 
 def picture(page, name):
-    """Saves a screenshot in few colours, so that the file is small."""
+    """Saves a screenshot in few colors, so that the file is small."""
     if len(sys.argv) > 1:
         from PIL import Image
         shot = Image.open(io.BytesIO(page.driver.get_screenshot_as_png())).convert("RGB")

@@ -1,6 +1,7 @@
 #!/bin/sh
 # Measures a pair of controllers with simulated gateways and callers, all on this host: joins per second, memory, and
-# how long a takeover and the loss of gateways last. It needs the Debian packages that controller/test needs.
+# how long a takeover and the recovery from a loss of gateways take. It needs the Debian packages that controller/test
+# needs.
 # usage: scale.sh [CALLERS ROOMS GATEWAYS LOST]
 set -eu
 here=$(CDPATH='' cd -- "$(dirname -- "$0")" && pwd)

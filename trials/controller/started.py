@@ -67,7 +67,7 @@ def started(end, what, expected):
     except subprocess.TimeoutExpired:
         status = None
     took = time.monotonic() - start
-    # erl_child_setup notices a little later.
+    # erl_child_setup ends a little later.
     until(lambda: not running(below), 1)
     left = running(below)
     check(f"{what}: status {status} after {took:.1f} s, {len(left)} of {len(below)} processes were left, ports are free: "

@@ -106,7 +106,7 @@ class Node:
             return -254
 
     def cut(self, kind, up):
-        """The cable of this node: `o` to phones and gateways, `i` to the other node."""
+        """Connects or cuts a cable of this node: `o` to phones and gateways, or `i` to the other node."""
         ip("-n", HUB, "link", "set", f"{kind}h{self.number}", *(["master", f"lan{kind}"] if up else ["nomaster"]))
 
 
@@ -370,7 +370,7 @@ def main():
             stopped(pair, conference)
             apart(pair, conference)
             unplugged(pair, conference, "o", 0)
-            # Both serve, and the one that began later continues. Then a node reaches no gateway for longer.
+            # Both serve, and the one that began later continues. Then a node is cut off for a longer time.
             unplugged(pair, conference, "oi", 1)
             unplugged(pair, conference, "oi", 12)
             both(pair, conference, pair.nodes)

@@ -85,8 +85,8 @@ class Browser:
         return until(lambda: text in self.text(), limit) is not None
 
     def hears(self, seconds):
-        """The pitches in more than half of the last seconds. A gap, which a busy machine causes, has all pitches for a
-        moment."""
+        """The pitches in more than half of the measurements of the last seconds. A gap, which a busy machine causes,
+        has all pitches for a moment."""
         rows = self.value(f"heard.filter(row => row[0] > {1000 * (time.time() - seconds)})")
         return {pitch for n, pitch in enumerate(PITCHES) if 2 * sum((row[n + 1] or -999) > -60 for row in rows) > len(rows) > 3}
 

@@ -5,8 +5,8 @@ until it passes, and must fail twice on a wrong body (a search, once). For a sea
 before it found a broken promise, and how many states it had seen.
 
 usage: wrong_bodies.py [--check | NAME..]
-Without names, all wrong bodies are planted. It exits with status 1 if one isn't noticed. Before that, and with --check
-only that, it checks that each can be planted in the current controller.
+Without names, all wrong bodies are planted. It exits with status 1 if one isn't noticed. First, it checks that each can
+be planted in the current controller; with --check, it does only that.
 
 Run it in a network namespace of its own. It needs the Debian packages that `controller/test --missing` names, and the
 gateway in dist/, or where BRIDGE says.

@@ -52,11 +52,11 @@ first=$(holder 1)
 after 'killed' lose "$first"
 start "$first"
 until_told log '^gateway .* up' 5
-after 'killed and begun anew' lose_and_start "$(holder 2)"
+after 'killed and restarted' lose_and_start "$(holder 2)"
 echo quit >&9
 grep '^gateway.*lost' "$work/log"
 until_told log 'lost: no answer' 1
-until_told log 'lost: began anew, error 4[13]' 1
+until_told log 'lost: restarted, error 4[13]' 1
 errors
 if [ $failed = 1 ]; then echo 'it did not hold'; fi
 exit $failed

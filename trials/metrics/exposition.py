@@ -23,6 +23,7 @@ FAMILIES = (
     ("strangers_total", "counter"),
     ("journal_lacking_ticks", "gauge"),
     ("journal_appends_failed_total", "counter"),
+    ("journal_renewals_failed_total", "counter"),
     ("control_messages_unjournaled_total", "counter"),
     ("frames_concealed_total", "counter"),
     ("port_termination", "gauge"),

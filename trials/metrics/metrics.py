@@ -78,7 +78,7 @@ class Metered(Gateway):
 
     def metrics(self, moment):
         """Returns the metrics of the first file that is written after this moment."""
-        # Late enough that the gateway has received all earlier datagrams.
+        # A tenth of a second later, the gateway has received all earlier datagrams.
         if wait(lambda: self.written() > moment + 0.1, 3 * PERIOD) is None:
             sys.exit(f"{self.file} isn't written every {PERIOD} s")
         return Exposition(self.text())

@@ -4,7 +4,7 @@ usage: stalls.py WORD ..
 
 The words start mg_bridge. In each measurement, 16 callers in a conference send packets for 25 s. The gateway writes no
 metrics, or writes them to /dev/shm or to the folder for temporary files; nothing else writes to that folder, or four
-programs write and sync there all the time. Prints how late the packets were against the grid of 20 ms, by the kernel's
+programs write and sync there all the time. Prints how far the packets were behind a grid of 20 ms, by the kernel's
 time of arrival. The earliest packet of each caller counts as in time.
 
 A gateway writes only five files in this time, so the trial also measures how long 1,000 such files take. The gateway

@@ -203,7 +203,7 @@ def full_disk(system):
 
 
 def moved(system):
-    """The keeper's metrics say if the journal was moved."""
+    """The keeper's metrics say whether the journal was moved."""
     metric = "grep -q '_age_seconds.* +Inf$' /run/lobbysorrel-keeper/1/unit.prom"
     system.run(f"mv {STATE}/journal.txt {STATE}/moved.txt")
     seen = soon(lambda: system.tried(metric).returncode == 0, 10)
@@ -330,7 +330,7 @@ def new_journal(system):
 
 
 def reload(system):
-    """A reload restarts the gateway unless it wouldn't start."""
+    """A reload restarts the gateway only if it would start with the changed options."""
     options = "/etc/lobbysorrel/1.env"
     system.run(f"cp {options} /tmp/1.env; sed -i 's/^OPTIONS=/OPTIONS=--slots 4 /' {options}")
     call = Call()

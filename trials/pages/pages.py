@@ -3,9 +3,9 @@
 usage: pages.py [--try] PAGE ..
 
 Such a command is an `sh` block that begins with `dist/mg_bridge` or `demo/hear`. Its output must be one of the blocks
-that follow it, up to the next `sh` block. Exits with 1 if one differs. If the machine is too busy for `demo/hear`, it is
-skipped. With --try, `rt try` runs the sources in place of dist/mg_bridge: nothing is proved, and a command takes about a
-minute. `demo/hear` is left out.
+that follow it, up to the next `sh` block. Exits with 1 if one differs. If the machine is too busy for `demo/hear`, it
+is skipped. With --try, `rt try` runs the sources in place of dist/mg_bridge: nothing is proved, a command takes about a
+minute, and `demo/hear` is left out.
 """
 import re
 import subprocess

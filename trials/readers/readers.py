@@ -196,7 +196,7 @@ def no_reader(folder):
     gateway.add_callers(callers)
     load = Load(gateway, callers, SLOTS)
     start = time.monotonic()
-    # First, the gateway prints its addresses.
+    # First, the gateway prints lines about itself, the last one about its fence.
     for line in iter(gateway.process.stderr.readline, b""):
         if line.startswith(b"fence: "):
             break

@@ -1,18 +1,23 @@
 /* Fault injection: a preloaded library that makes one of a program's calls fail.
  *
- * REFUSE       the kind of call: memory, read, write, receive, send or wait (for ready sockets); or, on a regular file
- *              that isn't a standard stream, append (a write), sync or cut
+ * REFUSE       the kind of call: memory, read, write, receive, send or wait (for ready sockets); on a regular file that
+ *              isn't a standard stream, append (a write), sync or cut; link, rename or create (a file); or file, which is
+ *              each of append, sync, cut, link, rename and create
  * REFUSE_AT    which call of that kind fails, counted from 1; 0 or absent: none
  * REFUSE_THEN  a kind of which each call fails once that call has failed
  * REFUSE_TOLD  a file that is created when that call fails
+ * REFUSE_KILLS if set, that call kills the program instead
  * REFUSE_PIECE the maximum number of bytes in a read or a write of a regular file, or of standard input or output; 0 or
  *              absent: no limit
+ * REFUSE_WRITES the maximum number of bytes in a write to a regular file; 0 or absent: no limit
  *
  * An allocation fails with ENOMEM, and any other call with EIO. */
 #define _GNU_SOURCE
 #include <dlfcn.h>
 #include <errno.h>
 #include <fcntl.h>
+#include <signal.h>
+#include <stdarg.h>
 #include <stdlib.h>
 #include <string.h>
 #include <sys/epoll.h>
@@ -32,6 +37,7 @@ static const char *then;
 static const char *told;
 static unsigned long at;
 static size_t piece;
+static size_t writes;
 static unsigned long calls;
 
 static unsigned long number(const char *name)
@@ -44,6 +50,7 @@ __attribute__((constructor)) static void start(void)
 {
     at = number("REFUSE_AT");
     piece = number("REFUSE_PIECE");
+    writes = number("REFUSE_WRITES");
     told = getenv("REFUSE_TOLD");
     kind = getenv("REFUSE");
     then = getenv("REFUSE_THEN");
@@ -73,8 +80,16 @@ static int is_call_refused(const char *of)
 {
     if (!is_refused(of))
         return 0;
+    if (getenv("REFUSE_KILLS"))
+        kill(getpid(), SIGKILL);
     errno = EIO;
     return 1;
+}
+
+/* The same for a call that changes a file or a folder, so that it is of the kind `file`, too. */
+static int is_change_refused(const char *of)
+{
+    return is_call_refused(kind && strcmp(kind, "file") == 0 ? "file" : of);
 }
 
 void *malloc(size_t n) { return is_memory_refused() ? 0 : __libc_malloc(n); }
@@ -96,7 +111,7 @@ int posix_memalign(void **p, size_t a, size_t n)
 /* The function of this name in the next library. */
 #define NEXT(name) __typeof__(name) *next = (__typeof__(name) *)dlsym(RTLD_NEXT, #name)
 
-/* Whether this is a regular file, but no standard stream. */
+/* Whether this is a regular file, and not a standard stream. */
 static int is_file(int fd)
 {
     struct stat stat;
@@ -104,6 +119,12 @@ static int is_file(int fd)
 }
 
 static size_t in_piece(int fd, size_t n) { return piece && (fd <= 1 || is_file(fd)) && n > piece ? piece : n; }
+
+static size_t to_write(int fd, size_t n)
+{
+    n = in_piece(fd, n);
+    return writes && is_file(fd) && n > writes ? writes : n;
+}
 
 ssize_t read(int fd, void *bytes, size_t n)
 {
@@ -114,25 +135,47 @@ ssize_t read(int fd, void *bytes, size_t n)
 ssize_t write(int fd, const void *bytes, size_t n)
 {
     NEXT(write);
-    return is_call_refused(is_file(fd) ? "append" : "write") ? -1 : next(fd, bytes, in_piece(fd, n));
+    return (is_file(fd) ? is_change_refused("append") : is_call_refused("write")) ? -1 : next(fd, bytes, to_write(fd, n));
 }
 
 int fsync(int fd)
 {
     NEXT(fsync);
-    return is_call_refused("sync") ? -1 : next(fd);
+    return is_change_refused("sync") ? -1 : next(fd);
 }
 
 int fdatasync(int fd)
 {
     NEXT(fdatasync);
-    return is_call_refused("sync") ? -1 : next(fd);
+    return is_change_refused("sync") ? -1 : next(fd);
 }
 
 int ftruncate(int fd, off_t length)
 {
     NEXT(ftruncate);
-    return is_call_refused("cut") ? -1 : next(fd, length);
+    return is_change_refused("cut") ? -1 : next(fd, length);
+}
+
+int link(const char *from, const char *to)
+{
+    NEXT(link);
+    return is_change_refused("link") ? -1 : next(from, to);
+}
+
+int rename(const char *from, const char *to)
+{
+    NEXT(rename);
+    return is_change_refused("rename") ? -1 : next(from, to);
+}
+
+int open(const char *path, int flags, ...)
+{
+    NEXT(open);
+    va_list more;
+    va_start(more, flags);
+    mode_t mode = flags & O_CREAT ? va_arg(more, mode_t) : 0;
+    va_end(more);
+    return flags & O_CREAT && is_change_refused("create") ? -1 : next(path, flags, mode);
 }
 
 ssize_t recvfrom(int fd, void *bytes, size_t n, int flags, struct sockaddr *from, socklen_t *length)

@@ -272,8 +272,8 @@ function showRoom() {
   put($("name"), "Room " + name);
   put($("state"), [`${members.length} ${members.length === 1 ? "person" : "people"}`, locked && "locked", door && "callers wait at the door",
     room.gateway === null ? "not on a gateway at the moment" : `on gateway ${shown(room.gateway)}, context ${room.context}`].filter(Boolean).join(", "));
-  put($("source"), (room.audited ? "As the gateway has just reported it." : "By the requests that the gateway has accepted: it doesn't report this of so many.") +
-    " Rows hear columns. Who sends packets isn't who speaks: the gateway counts packets, and not their sound.");
+  put($("source"), (room.audited ? "As the gateway has just reported it." : "According to the requests that the gateway has accepted: it couldn't report the flows.") +
+    " Rows hear columns. A member who sends packets may be silent: the gateway counts packets, not sound.");
   const roles = [...new Set(members.map(it => it.role))].sort();
   part($("actions"), roles, () => [
     button("Mute all", () => all(it => !it.muted, "mute", "unmute", "Muted all")),

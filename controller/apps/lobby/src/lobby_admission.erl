@@ -34,8 +34,8 @@ take(Kind, Address, Rate, Now, A = #admission{buckets = Buckets}) ->
     {Taken, A#admission{buckets = Buckets1}}.
 
 %% @doc Returns whether to accept a new call. `full': the maximum number of calls is reached. `too_many': this address
-%% has too many calls, or would have calls in too many rooms. `too_fast': this address makes calls too fast. Calls from
-%% strangers aren't counted.
+%% has too many calls, or has calls in too many rooms to create another one. `too_fast': this address makes calls too
+%% fast. A stranger's attempt isn't counted.
 -spec call(inet:ip4_address(), {lobby_room:name(), IsNew :: boolean()}, Now :: integer(), admission()) ->
           {ok | stranger | full | too_many | too_fast, admission()}.
 call(Address, {Room, IsNew}, Now, A = #admission{limits = Limits, calls = Calls, rooms = ByAddress}) ->

@@ -5,8 +5,8 @@
 -export([run/1, create/1, alone/1, leave/1, start/2, stop/1]).
 
 %% @doc Starts the application on its own node, with the configuration in a file: `erl -run lobby_app run FILE'. Ends
-%% the node with status 2 if the configuration is invalid or another release wrote the store, and with status 1 after
-%% any other error.
+%% the node with status 2 if the configuration is invalid or the store's format is unknown, and with status 1 after any
+%% other error.
 -spec run([file:filename()]) -> ok.
 run([File]) ->
     _ = configured(File),

@@ -138,12 +138,13 @@ written(Entry, State = #state{number = Number}) ->
     case File =/= none andalso file:write(File, Line) of
         ok -> Ready#state{size = Size + iolist_size(Line), lost = false};
         _ ->
-            %% Logs a full disk only once.
+            %% Logs only the first of several failures in a row.
             ok = lost([maps:get(file, State#state.config), " can't be written"], not State#state.lost),
             closed(Ready#state{lost = true})
     end.
 
-%% Renames the file if a line of this length would make it too long, and deletes the oldest files.
+%% Renames the file if a line of this length would make it too long, and then deletes the oldest files, if there are too
+%% many.
 rotated(Length, State = #state{config = #{file := File, bytes := Bytes, files := Files}, size = Size, number = Number})
   when Size > 0, Size + Length > Bytes ->
     Closed = closed(State),

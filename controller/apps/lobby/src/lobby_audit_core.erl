@@ -30,8 +30,8 @@ line(Number, Now, Entry) ->
 time(At) ->
     list_to_binary(calendar:system_time_to_rfc3339(At, [{unit, millisecond}, {offset, "Z"}])).
 
-%% @doc Returns the lines of a text, without incomplete ones. A line is incomplete if the controller or its host ended,
-%% or the disk was full, while it was written.
+%% @doc Returns the lines of a text, without incomplete ones. A line is incomplete if the controller was killed, its
+%% host crashed, or the disk was full while the line was written.
 -spec entries(binary()) -> [line()].
 entries(Text) ->
     [Line || Bytes <- binary:split(Text, <<"\n">>, [global, trim_all]), Line = #{<<"n">> := N} <- [entry(Bytes)],

@@ -1,9 +1,9 @@
 %%% @doc Identifies callers by address, by a password digest (RFC 3261, section 22, and RFC 8760), or by the identity
 %%% that a trusted proxy asserts (RFC 3325).
 %%%
-%%% A nonce has a signature that also covers the time, the method and the caller's address. So a nonce takes no memory
-%%% until it is used with a correct password; then its last count is kept. When the process that owns the secret
-%%% restarts, all nonces become invalid.
+%%% A nonce has a signature that covers its time, the method and the caller's address. So a nonce takes no memory until
+%%% it is used with a correct password; then its last count is kept. When the process that owns the secret restarts, all
+%%% nonces become invalid.
 -module(lobby_auth).
 
 -include_lib("p1_sip/include/esip.hrl").

@@ -308,7 +308,7 @@ silent(Call = #call{is_silent = true}) ->
     Call;
 silent(Call = #call{id = Id, dialog = Dialog, session = Session}) ->
     {{Address, Port}, Format} = lobby_sdp:media(Session),
-    logger:warning("the gateway takes no packets of ~ts (~ts): ~ts:~b sends none, or others than 20 ms of ~ts",
+    logger:warning("the gateway accepts no packets from ~ts (~ts): ~ts:~b sends none, or none with 20 ms of ~ts",
                    [Id, lobby_dialog:caller(Dialog), inet:ntoa(Address), Port, string:uppercase(atom_to_list(Format))]),
     Call#call{is_silent = true}.
 

@@ -171,8 +171,8 @@ still_arriving(_, _) -> true.
 
 %% @doc Restores the state of a restarted room from the terminations that the gateway's process has noted for it.
 %% `Others' has the rows of people in other rooms: their terminations are silenced, and handed over to those rooms. A
-%% termination is subtracted if it has no row or is in another context of this room, or if it was given to this room
-%% although its member is elsewhere.
+%% termination is subtracted if its member has no row, if it is in another context of this room, or if it was given to
+%% this room although its member is elsewhere.
 -spec resume([holding()], Others :: #{id() => row()}, conference()) -> conference().
 resume(Holdings, Others, C) ->
     Context = lists:last([new | lists:sort([In || #{context := In, given := false} <- Holdings])]),
@@ -307,7 +307,8 @@ flows(#conference{open = Open, held = Held}) ->
 %%% The next request.
 
 %% @doc Returns the next step: a request; `release' if a termination can go to its member's new room; or `settled' if
-%% the gateway has the desired state, except for what it refuses and for members whom another room hasn't released.
+%% the gateway has the desired state, except for what it refuses or has no capacity for, and for members whom another
+%% room hasn't released.
 -spec next(conference()) ->
           {{request, lobby_h248:action(), step()} | {release, row(), lobby_h248:termination()} | settled, conference()}.
 next(C0) ->

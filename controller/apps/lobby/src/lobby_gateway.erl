@@ -73,7 +73,7 @@ any_serves() ->
 
 -spec init(config()) -> {ok, #state{}}.
 init(Config = #{name := Name, address := {Address, Port}, here := Here}) ->
-    %% A reply of the gateway has up to 64,036 bytes.
+    %% An answer of the gateway has up to 64,036 bytes.
     {ok, Socket} = gen_udp:open(0, [binary, {ip, Here}, {active, 100}, {recbuf, 262144}, {buffer, 65536}]),
     ok = gen_udp:connect(Socket, Address, Port),
     {ok, Own} = inet:port(Socket),

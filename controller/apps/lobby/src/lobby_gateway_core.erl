@@ -103,7 +103,7 @@ new(#{config := Config, sender := Sender, first := First, settled := Settled, ke
                       state = case Sentinel of none when IsDraining -> drained; none -> probing; _ -> away end}
     end.
 
-%% @doc Returns the handle with which rooms command the gateway until it is lost.
+%% @doc Returns the handle with which rooms command the gateway until it is lost or drained.
 -spec handle_of(gateway()) -> handle().
 handle_of(#gateway{config = #{name := Name}, generation = Generation}) -> {Name, Generation}.
 
@@ -143,7 +143,7 @@ handle(Event, Now, Gateway) ->
 act(Action, G = #gateway{out = Out}) -> G#gateway{out = [Action | Out]}.
 acts(Actions, G) -> lists:foldl(fun act/2, G, Actions).
 
-%% Handles an event. An event with the generation of another handle comes from a room that missed a loss.
+%% Handles an event. An event with an older handle comes from a room that missed a loss.
 event({start, Earlier}, Now, G = #gateway{state = State}) ->
     repeated(Earlier, Now, entered(State, G#gateway{away = Now}));
 event({request, {_, N}, Room, Reference, Action, Ids}, Now, G = #gateway{generation = N, sentinel = {_, _, _}}) ->
@@ -259,8 +259,8 @@ check(G = #gateway{state = State, checked = Is}) when State =/= serving, State =
     act({send, lobby_h248:check()}, G#gateway{checked = case Is of none -> asked; _ -> Is end});
 check(G) -> G.
 
-%% Handles the answer to a check. The gateway may only be slow to answer other requests, so this waits for a while. If
-%% requests of earlier runs are open, only their numbers may be too low, so nothing is reported yet.
+%% Handles the answer to a check. The gateway may just be slow to answer other requests, so this waits for a while. If
+%% requests of earlier runs are open, perhaps only their numbers are too low, so nothing is reported yet.
 checked(Now, G = #gateway{checked = asked}) -> G#gateway{checked = Now};
 checked(Now, G = #gateway{checked = Since, config = #{retry := Retry, tries := Tries}, sender = Own})
   when Now - Since >= Retry * Tries ->

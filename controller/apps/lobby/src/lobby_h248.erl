@@ -30,7 +30,7 @@
                  | {move, termination(), settings()}
                  | {subtract, termination() | all} | {subtract_optional, termination() | all}
                  | {audit, name(), [media | statistics]}.
-%% `guard': a termination that must be in its context. Otherwise, the gateway rejects the guard's audit, and runs
+%% `guard': a termination that must be in this context. Otherwise, the gateway rejects the guard's audit, and runs
 %% nothing.
 -type action() :: #{context := context() | new | null, commands => [command()], topology => [triple()],
                     audit_topology => boolean(), guard => {context(), termination()}}.

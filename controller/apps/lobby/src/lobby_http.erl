@@ -211,8 +211,8 @@ query(Uri) ->
         Pairs -> lobby_audit_core:query(Pairs)
     end.
 
-%% Calls a handler, and converts its result into an answer. A call can time out, because a room may wait for its
-%% gateway, and a call for its room.
+%% Calls a handler, and converts its result into an answer. A handler can time out, because a room may wait for its
+%% gateway, and a call's process for its room.
 handled(Handler) ->
     try Handler() of
         ok -> {200, [], #{}};
@@ -242,8 +242,8 @@ bearer(Headers) ->
 
 hash(Token) -> crypto:hash(sha256, Token).
 
-%% Matches a path against a route. Returns a list with the name at the braces, or an empty list if the path doesn't
-%% match.
+%% Matches a path against a route. Returns a list with the name at the braces (empty for a route without braces), or an
+%% empty list if the path doesn't match.
 name(Route, Path) ->
     names(binary:split(Route, <<"/">>, [global, trim_all]), Path, <<>>).
 

@@ -100,7 +100,7 @@ member(Row = #{id := Id}, Termination, Callers) ->
     With = case Termination of none -> Shown; _ -> Shown#{termination => Termination} end,
     maps:merge(With, named(Row, maps:get(Id, Callers, <<>>))).
 
-%% @doc Returns a caller's names. A proved or asserted name comes first, because callers can choose any name for
+%% @doc Returns a caller's names. A proved or asserted name takes precedence, because callers can choose any name for
 %% themselves.
 -spec named(lobby_person:row() | #{}, Says :: binary()) -> #{caller := binary(), says := binary(), proved := boolean()}.
 named(#{name := Name}, Says) -> #{caller => Name, says => Says, proved => true};

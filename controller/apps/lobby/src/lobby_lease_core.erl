@@ -48,8 +48,8 @@
 %% `gone': the check that was requested at this time showed that the other node has ended.
 -type event() :: {tick, seen(), time()} | {heard, said(), time()} | {connected | lost | gone | reaches, time()}
                | inconsistent.
-%% `limit': sets the time until which the other node may take over without writes from now on. `ask': checks whether the
-%% other node has ended.
+%% `limit': sets the time until which the other node may take over without the writes that follow. `ask': checks whether
+%% the other node has ended.
 -type action() :: {limit, time() | none} | {say, said()} | {ready, integer()} | {ask, time()} | {keep, permit()}
                 | follow | drop | {serve, Term :: pos_integer()} | {stop, iodata()}.
 %% `gap': milliseconds without a beat after which the serving node drops the other one.
@@ -120,7 +120,7 @@ opened(_, State) ->
     {State, []}.
 
 %% A node that has served exits if it doesn't have the lease, even if this process doesn't serve yet. A standby that has
-%% heard a serving node exits if it then has no grant, because it may miss changes of the other node.
+%% heard a serving node exits if it has no valid grant ALONE later, because it may miss changes of the other node.
 looked(#{lease := false}, _, #state{permit = serves}) ->
     throw({stop, "another node has the lease"});
 looked(_, Now, #state{role = standby, permit = #told{since = Since, until = Until}})

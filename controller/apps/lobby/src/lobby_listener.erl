@@ -4,7 +4,8 @@
 -export([start_link/3, listen/3]).
 
 %% The maximum number of connections on one port, of connections from one address, and of new connections from one
-%% address in a second. `lobby_admission' counts connections like calls.
+%% address in a second (twice as many in a burst). `lobby_admission' counts connections like calls, so proxies have no
+%% per-address limits.
 -define(LIMITS, #{max_calls => 1024, max_calls_from => 64, new_calls_from => 64}).
 %% Milliseconds to wait for a connection before checking for connections that have ended.
 -define(ACCEPT, 1000).

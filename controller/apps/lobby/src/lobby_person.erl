@@ -41,7 +41,7 @@
                  %% The requests that wait for the room's admission, for a version, or for an earlier move.
                  asking = none :: tag() | none, pending = [] :: [{version(), tag()}],
                  moves = [] :: [{tag(), lobby_room:name()}],
-                 %% The last version that the gateway has, according to the room.
+                 %% The latest version that the gateway has had, according to the room.
                  held = 0 :: non_neg_integer()}).
 -opaque person() :: #person{}.
 

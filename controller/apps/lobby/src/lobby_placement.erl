@@ -32,7 +32,7 @@ place(Room, Ids, Prefer, Except) ->
 init([]) ->
     {ok, none}.
 
-%% The gateway itself decides whether it has the seats.
+%% The gateway's process decides whether the gateway has the seats.
 -spec handle_call({place, lobby_room:name(), [lobby_rules:id()], handle() | none, handle() | none},
                   gen_server:from(), none) -> {reply, handle() | none, none}.
 handle_call({place, Room, Ids, Prefer, Except}, _, State) ->

@@ -24,7 +24,7 @@
 -define(PLAYED, 100).
 
 -type name() :: binary().
-%% `agree' is answered once the gateway has the desired state, or with an error if that takes longer. `audit' is
+%% `agree' is answered once the gateway has the desired state, or with an error if that takes too long. `audit' is
 %% answered after an audit of the gateway; `describe' and `agrees' are answered immediately.
 -type request() :: {rules, add | set, [lobby_rules:rule()]} | {create, [lobby_rules:rule()], lobby_room_core:settings()}
                  | {settings, lobby_room_core:settings()} | agree | audit | describe | agrees.
@@ -288,7 +288,7 @@ tell_member(Id, Event, Name) ->
         Pid -> Pid ! {?MODULE, Name, Event}, ok
     end.
 
-%% Sets the retry timer, unless it expires earlier already.
+%% Sets the retry timer, unless it is already set to an earlier time.
 retried(In, State = #state{retry = Before}) ->
     Time = now_ms() + In,
     case Before of

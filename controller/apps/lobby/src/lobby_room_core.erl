@@ -71,7 +71,7 @@
                %% The rooms to which members of this room have moved.
                asks = #{} :: #{id() => {To :: name(), Moved :: pos_integer(), handle() | none}},
                reported = #{} :: #{id() => lobby_person:report()},
-               %% The requests to answer once the gateway has the desired state, and once it was audited.
+               %% The requests to answer once the gateway has the desired state, and once it has been audited.
                asked = [] :: [term()], audits = [] :: [term()], compared = unknown :: unknown | same | repaired,
                %% The number of packets that each termination has received, and the time of the last change.
                packets = #{} :: #{lobby_h248:termination() => {non_neg_integer(), Since :: integer()}},
@@ -80,7 +80,8 @@
                out = [] :: [action()]}).
 -opaque room() :: #room{}.
 
-%% @doc Returns an empty room. `Run' differs for each process, so that answers to an earlier process are recognized.
+%% @doc Returns an empty room. `Run' differs for each process, so that answers to an earlier process are recognized as
+%% such.
 -spec new(#{name := name(), run := term(), silent_after => pos_integer()}) -> room().
 new(Options = #{name := Name, run := Run}) ->
     #room{name = Name, run = Run, silent_after = maps:get(silent_after, Options, 30000)}.
@@ -203,7 +204,7 @@ event({leave, Gateway}, _, Room = #room{gateway = Gateway}) ->
 event(retry, _, Room = #room{conference = C}) ->
     sent(Room#room{failures = 0, conference = lobby_conference:unblock(C)});
 event(watch, Now, Room = #room{conference = C, admitted = Admitted}) ->
-    %% If an admitted caller's row never arrived, the process of the call has failed.
+    %% If an admitted caller's row hasn't arrived within 30 s, the process of the call has failed.
     Still = maps:filter(fun(_, Since) -> Now - Since < 30000 end, Admitted),
     Room#room{admitted = Still, conference = lobby_conference:check(C)};
 event(_, _, Room) ->
@@ -387,7 +388,7 @@ answer_asked(Room) ->
 audited(Room = #room{audits = Audits, compared = Result}) ->
     acts([{reply, From, Result} || From <- Audits], Room#room{audits = []}).
 
-%% Notifies other rooms of members who have no termination here any more.
+%% Notifies other rooms of members who have moved there, and have no termination here any more.
 left(Room = #room{asks = Asks, conference = C}) ->
     Gone = maps:filter(fun(Id, _) -> not lobby_conference:has(Id, C) end, Asks),
     maps:fold(fun(Id, {To, Moved, _}, R) -> left(Id, To, Moved, none, R) end, Room, Gone).

@@ -84,7 +84,7 @@ audio(_, _, _) ->
     {error, no_audio}.
 
 %% The gateway sends packets of 20 ms, and drops received packets of any other length. A phone that asks for another
-%% length would also send it.
+%% length would also send packets of that length.
 takes_20_ms(<<"a=ptime:", Ms/binary>>) -> string:to_integer(Ms) =:= {20, <<>>};
 takes_20_ms(<<"a=maxptime:", Ms/binary>>) -> {Max, _} = string:to_integer(Ms), is_integer(Max) andalso Max >= 20;
 takes_20_ms(_) -> true.
@@ -128,7 +128,7 @@ warning(Reason) ->
     end,
     [{warning, [{Code, <<"lobby">>, iolist_to_binary([$", Text, $"])}]}].
 
-%% @doc Returns the answer to an offer. The id and the version are those in its o= line.
+%% @doc Returns the answer to an offer. The answer's o= line gets the id and the version.
 -spec answer(session(), Local :: lobby_h248:media(), Id :: non_neg_integer(), Version :: non_neg_integer()) -> binary().
 answer(#session{direction = Direction, streams = Streams}, Local, Id, Version) ->
     description(Streams, Local, reversed(Direction), Id, Version).

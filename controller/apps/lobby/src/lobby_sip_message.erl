@@ -38,8 +38,8 @@ checked(Status, Message = #sip{type = Type, body = Body}) ->
         {response, _, _} -> {error, not_sip}
     end.
 
-%% @doc Returns the response to a request that the controller doesn't support (section 8.2), in any call. An ACK is
-%% never answered, and a CANCEL isn't rejected for its contents.
+%% @doc Returns the response to a request that the controller doesn't support (section 8.2), in a call or outside. An
+%% ACK is never answered, and a CANCEL isn't rejected for its contents.
 -spec refusal(message()) -> none | {Status :: 400..699, Headers :: [{atom(), term()}]}.
 refusal(#sip{method = Method}) when Method =:= <<"ACK">>; Method =:= <<"CANCEL">> ->
     none;

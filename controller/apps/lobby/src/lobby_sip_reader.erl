@@ -87,8 +87,8 @@ forward(Pid, Message, Source) ->
          || {_, Waiting} <- [process_info(Pid, message_queue_len)], Waiting < ?MAX_WAITING],
     lobby_tcp:in_call(lobby_sip_message:connection(Source), Pid).
 
-%% Answers a request that belongs to no call. A BYE with our tag belongs to a call that has ended: our response to the
-%% first BYE was lost (section 17.2.2).
+%% Begins a call for an initial INVITE, and answers other requests that belong to no call. A BYE with our tag belongs to
+%% a call that has ended: our response to the first BYE was lost (section 17.2.2).
 unknown(Request = #sip{method = Method}, Source) ->
     case {lobby_sip_message:tag(to, Request), Method} of
         {<<>>, <<"INVITE">>} -> invite(Request, Source);

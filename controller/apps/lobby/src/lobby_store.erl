@@ -116,8 +116,8 @@ is_open() ->
 follow(none) -> mnesia:set_master_nodes([]);
 follow(Node) -> mnesia:set_master_nodes([Node]).
 
-%% @doc Makes the tables forget a node's copies, so that this node can copy the tables to an empty folder. The node
-%% itself calls this function.
+%% @doc Makes the tables forget a node's copies, so that the node can copy the tables to its empty folder. The node
+%% itself calls this function on the other node.
 -spec admit(node()) -> ok | {error, not_open}.
 admit(Node) ->
     Open = is_open(),

@@ -1,5 +1,5 @@
 %% Sends each message that answers.md lists to the SIP port, and compares the response. The messages under the names of
-%% RFC 4475 and RFC 5118 are modeled on those of the RFC. Most of the other cases are those of the page's last table.
+%% RFC 4475 and RFC 5118 are modeled on those of the RFCs. Most of the other cases are those of the page's last table.
 -module(lobby_answers_SUITE).
 
 -include_lib("stdlib/include/assert.hrl").
@@ -253,14 +253,14 @@ dialogs_are_known_by_both_tags(Config) ->
          ?assertEqual({Method, Tag, 481}, {Method, Tag, status(Asked)})
      end || {Method, Body} <- [{"INVITE", phone:sdp(Stranger)}, {"UPDATE", phone:sdp(Stranger)}, {"BYE", ""}, {"OPTIONS", ""}],
             Tag <- ["another", "0011223344556677"]],
-    %% Requests without a tag belong to no call.
+    %% An UPDATE or a BYE without a To tag belongs to no call.
     [?assertEqual({Method, 481}, {Method, begin P = phone:request(Method, "", phone:tagged("", Stranger)), status(P) end}) || Method <- ["UPDATE", "BYE"]],
     %% A request with our tag belongs to the dialog, even from another address.
     Moved = phone:request("OPTIONS", "", phone:number(50, phone:as(Phone, Stranger))),
     ?assertEqual(200, status(Moved)),
     ?assertEqual(1, length(lobby_store:all(lobby_calls))).
 
-%% A response to our BYE without our tag is ignored.
+%% A response to our BYE is ignored if it lacks our tag.
 answers_have_both_tags(Config) ->
     Phone = call(Config),
     [{_, #{id := Id}}] = lobby_store:all(lobby_calls),
@@ -367,14 +367,14 @@ challenged(Config) ->
 a_digest_is_used_once(Config) ->
     Digest = challenged(Config),
     ?assertEqual(200, phone:status(answer(invite([Digest, {"P-Asserted-Identity", "<sip:boss@127.0.0.1>"}]), Config))),
-    %% The API shows the proved name, not the name in From.
+    %% The caller's identity is the proved name, not the name in From.
     ?assertEqual([<<"alice">>], [lobby_auth:identity(Invite) || {_, #{invite := Invite}} <- lobby_store:all(lobby_calls)]),
     Again = answer(invite([Digest]), Config),
     ?assertEqual({401, true}, {phone:status(Again), string:find(Again, "stale=true") =/= nomatch}),
     ?assertEqual(200, phone:status(answer(invite([challenged(Config)]), Config))).
 
-%% Only a trusted proxy's P-Asserted-Identity counts (RFC 3325). Limits by address don't apply to a proxy, because
-%% it serves many callers.
+%% Only a trusted proxy's P-Asserted-Identity counts (RFC 3325). Per-address limits don't apply to a proxy, because it
+%% serves many callers.
 a_proxy_is_trusted(Config) ->
     Asserted = {"P-Asserted-Identity", "<sip:bob@127.0.0.1>"},
     ?assertEqual([200, 200], [from({127, 0, 0, 3}, invite([Asserted]), Config) || _ <- [1, 2]]),

@@ -331,7 +331,7 @@ what_the_gateway_drops_is_logged(Config) ->
     ok = logger_std_h:filesync(file),
     ok = logger:remove_handler(file),
     {ok, Log} = file:read_file(File),
-    ?assertMatch({match, [_]}, re:run(Log, "the gateway takes no packets of [0-9a-f]{8} .*, or others than 20 ms of PCMU", [global])).
+    ?assertMatch({match, [_]}, re:run(Log, "the gateway accepts no packets from [0-9a-f]{8} .*, or none with 20 ms of PCMU", [global])).
 
 addresses_that_may_call(Config) ->
     Phone = phone:start(sip(Config)),
@@ -381,7 +381,7 @@ lose_gateway(Config) ->
     #{gateway := Name} = people:describe(<<"100">>),
     gateway:kill(case Name of <<"1">> -> A; <<"2">> -> B end).
 
-%% The lost gateway may only be unreachable, and may still mix the caller's speech.
+%% The lost gateway may just be unreachable, and may still mix the caller's speech.
 who_moves_after_a_loss_is_awaited(Config) ->
     {Mover, _} = call(Config),
     [Id] = members(<<"100">>),

@@ -1,4 +1,4 @@
-%% Functions that the suites share: one ends a case, and the others wait for conditions.
+%% Functions that the suites share: one ends a case, and the others wait for conditions or check them.
 -module(lobby_case).
 
 -export([stop/0, until/1, until/2, stays/1]).

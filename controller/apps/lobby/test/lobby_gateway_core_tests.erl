@@ -152,7 +152,7 @@ an_earlier_number_that_is_too_low_is_given_up_test() ->
     {_, Repeated} = happens([{?REPEATS, 600}], G0),
     ?assertEqual([], sent("<17.lobby>", Repeated)).
 
-%% Only a reply to this process, or the answer to a check, is late.
+%% No other controller has a higher number: a reply to this process, or the answer to a check, is just late.
 a_slow_answer_is_none_of_another_controller_test() ->
     Answered = {received, {reply, 5, {error, 411}}},
     [begin

@@ -81,7 +81,7 @@ the_rules_hold_on_the_gateway(_) ->
     ?assertEqual([], gateway:contexts([Context], G)).
 
 %% A newcomer never hears, even for one packet, a talker whom the rules keep from him. The talker never pauses, and
-%% datagrams are so slow that the gateway sends packets between any two requests, so a leak is heard.
+%% datagrams are so slow that the gateway sends packets between any two requests, so a leak would be heard.
 a_newcomer_enters_with_his_rules(_) ->
     G = gateway:start(),
     Relay = relay:start(gateway:address(G), #{lose => 0.0, double => 0.0, delay => 60}),
@@ -783,7 +783,7 @@ lost_and_doubled_datagrams(_) ->
     ?assertEqual(lists:sort([{A, B} || A <- Others, B <- Others, A =/= B]), heard(<<"100">>, #{<<"a">> => G})),
     ?assertEqual(2, length(gateway:contexts(lists:seq(1, 60), G))).
 
-%% Makes random changes and failures on two gateways. After each change, the gateway's flows must equal the flows that
+%% Makes random changes and failures on two gateways. After each change, the gateways' flows must equal the flows that
 %% the rules allow. The test derives the rules from its own requests.
 anything_for_some_seconds() -> [{timetrap, {hours, 3}}].
 

@@ -349,7 +349,7 @@ the_page(Config) ->
     ?assertNotEqual(nomatch, binary:match(Page, <<"<title>Lobby</title>">>)).
 
 %% Each request in openapi.json, except for the one for events, is answered with 200, and rooms, members and gateways
-%% have the fields that it lists.
+%% have the fields that openapi.json lists.
 everything_is_described(Config) ->
     {200, #{<<"paths">> := Paths, <<"components">> := #{<<"schemas">> := Schemas}}} = ask(get, "/openapi.json", "", none, Config),
     Described = [{string:uppercase(binary_to_list(Method)), Path} || {Path, Methods} <- maps:to_list(Paths), Method <- maps:keys(Methods)],
@@ -407,7 +407,7 @@ events(Config) ->
     NoToken = watch("", Config),
     ?assertMatch("HTTP/1.1 401 " ++ _, head(NoToken)).
 
-%% Waits until no event comes. On a busy machine, the beginning of a call takes long enough for several events.
+%% Waits until no more events arrive. On a busy machine, the beginning of a call takes long enough for several events.
 settles(Event, Watching) ->
     case said(400, Watching) of
         "" -> ok;
@@ -592,7 +592,7 @@ failures_are_logged(Config) ->
     {ok, Log} = file:read_file(File),
     ?assertNotEqual(nomatch, string:find(Log, "HTTP request " ++ Number ++ ": GET \"/rooms\" was answered 500")).
 
-%% A page runs only its own script, and can't be shown in another site's frame.
+%% A page runs only its own script, and can't be shown in a frame.
 pages_are_closed_to_others(Config) ->
     [begin
          {ok, {{_, Status, _}, Headers, _}} = httpc:request(get, {url(Path, Config), []}, [], []),

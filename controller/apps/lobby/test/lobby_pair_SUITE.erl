@@ -374,7 +374,7 @@ write(Peer) -> ok = peer:call(Peer, lobby_store, put, [lobby_settings, written, 
 %% Waits until each node knows the other node's role.
 settle() -> timer:sleep(500).
 
-%% Once a write is durable that the standby lacks, the standby can't take over any more.
+%% Once a write that the standby lacks is durable, the standby can't take over any more.
 what_the_standby_lacks_is_not_durable(Config0) ->
     Config = [{a, A}, {b, B} | _] = with_pids_first(Config0),
     settle(),

@@ -1,6 +1,6 @@
 %% Tests the promise with the packets that members receive. Once a change that closes a flow is answered, no packet
-%% carries that talker's speech to that listener until a change that opens the flow is requested. Any process, message
-%% or gateway may fail meanwhile.
+%% carries the talker's speech to the listener until a change that opens the flow is requested. Meanwhile, any process
+%% or gateway may fail, and any message may be lost.
 -module(lobby_promise_SUITE).
 
 -include_lib("common_test/include/ct.hrl").
@@ -474,7 +474,7 @@ more_rooms_than_are_allowed_start_again(_) ->
 
 is_running(Room) -> is_pid(lobby_registry:whereis_name({room, Room})).
 
-%% The room's state can't be read. Other rooms continue, and the calls of its members end.
+%% The room's state can't be read. The calls of its members end, and other rooms continue.
 a_room_that_fails_is_set_aside(_) ->
     G = gateway:start(),
     run([{<<"a">>, G}]),

@@ -15,7 +15,7 @@ who_arrives_at_a_restart_is_awaited_test() ->
     ?assertEqual([#{a => unknown, b => unknown}], [Stale || {save, #{stale := Stale}} <- Actions]),
     ?assertNot(lobby_room_core:agrees(Room)).
 
-%% Seats are reserved with one request, and no other request undoes it meanwhile.
+%% Seats are reserved with one request, and no other request undoes the reservation meanwhile.
 seats_are_reserved_once_test() ->
     Seats = fun(Actions) -> [Action || Action <- Actions, lists:member(element(1, Action), [reserve, seats])] end,
     Room0 = lobby_room_core:new(#{name => <<"2">>, run => 1}),

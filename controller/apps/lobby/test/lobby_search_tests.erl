@@ -215,8 +215,8 @@ released_by_a_node_that_is_cut_off(Fence) ->
     Isolated = delivered(fun rests/1, Step({change, {isolate, Ann}}, Start), Model),
     search:breadth(Model#{start := Isolated}, limits()).
 
-%% A fence passes requests of an earlier run until the next run has sent a message. Until then, a request whose reply
-%% was acknowledged may be run again, as within one run: here, the request that let Ann talk.
+%% A fence passes requests of an earlier run until the gateway has run a message of the next run. Until then, a request
+%% whose reply was acknowledged may be run again, as within one run: here, the request that let Ann talk.
 what_a_fence_is_not_for_test() ->
     Ann = {ann, 1}, Room = {room, <<"1">>},
     Way = [{timer, {gateway, a, transactions}}, {deliver, {gateway, a}, {net, a}}, {change, {mute, Ann}},

@@ -40,8 +40,8 @@ prop_the_batches_lead_to_the_wanted_flows() ->
                 equal(After, Last) andalso lists:all(fun(B) -> B =/= [] andalso length(B) =< Max end, Batches)
             end).
 
-%% After each request, no flow is open that is closed both before and after the change. When the first flow is opened,
-%% all flows to be closed are already closed.
+%% After each request, no flow is open that is closed both before and after the change. A flow is opened only once all
+%% flows to be closed are closed, unless the pair's other direction was open before the change.
 prop_closing_comes_first() ->
     ?FORALL({Ids, Before, After, Max}, change(),
             begin
@@ -54,7 +54,8 @@ prop_closing_comes_first() ->
                 Fine
             end).
 
-%% Each pair that is to lose a flow has lost it, unless the same triple opens its other direction.
+%% Returns whether all flows to be closed are closed, or the other direction of each opened flow was open before the
+%% change: a oneway triple can close that direction and open this one.
 no_pair_left(Now, Before, After) ->
     Opened = sets:subtract(Now, Before),
     Left = sets:subtract(sets:intersection(Now, Before), After),

@@ -647,8 +647,8 @@ timed(Key, Due, W = #world{timers = Timers}) -> W#world{timers = Timers#{Key => 
 
 %%% The promises.
 
-%% Returns the flows: a listener hears a talker by the proved gateways' definition, and only if the talker's phone sends
-%% to that gateway. Listeners hear everything that any gateway sends to their phones.
+%% Returns the flows that are open on a proved gateway to which the talker's phone sends. Listeners hear everything that
+%% any gateway sends to their phones.
 heard(#world{worlds = Worlds, oracles = Oracles, phones = Phones}) ->
     lists:usort([{Talker, Listener}
                  || {G, World} <- maps:to_list(Worlds), World =/= ended, Oracle <- [maps:get(G, Oracles)],
@@ -663,8 +663,8 @@ persons(Oracle, World) ->
     maps:from_list([{T, person(binary_to_integer(Host), binary_to_integer(Port))}
                     || {T, {<<"10.0.0.", Host/binary>>, Port}} <- maps:to_list(oracle:remotes(Oracle, World))]).
 
-%% Returns the broken promises: a person is heard against a promise or, when no message or timer is pending, a person
-%% isn't in the right room.
+%% Returns the broken promises: a person is heard against a promise or, when no message or timer is pending,
+%% `left_over/1' finds something wrong.
 broken(W) ->
     case [{Promise, Flow} || Flow <- heard(W), Promise <- broken_by(Flow, W)] of
         [] -> case deliveries(W) ++ timeouts(W) of [] -> resting(W); _ -> [] end;

@@ -2,8 +2,8 @@
 %% reached. Each result is computed once, by `mg_bridge replay --flows' behind a port, and then kept.
 %%
 %% A world is a gateway's content: terminations, topology, media, kept replies, and the numbers used so far. Scripts
-%% with the same content lead to the same world, so a search meets few worlds. `recheck/2' checks that such scripts have
-%% the same results afterwards. In a world, no time passes, and no RTP arrives.
+%% that lead to the same content lead to the same world, so a search meets few worlds. `recheck/2' checks that such
+%% scripts have the same results afterwards. In a world, no time passes, and no RTP arrives.
 -module(oracle).
 -behaviour(gen_server).
 

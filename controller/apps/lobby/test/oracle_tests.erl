@@ -103,7 +103,7 @@ branches_are_apart_test_() ->
          ?_assertEqual([{1, 2}, {2, 1}], oracle:flows(Oracle, Back))]
     end).
 
-%% Scripts with the same content lead to the same world. Otherwise, a search would meet many more worlds.
+%% Scripts that lead to the same content lead to the same world. Otherwise, a search would meet many more worlds.
 the_same_content_is_the_same_world_test_() ->
     with(fun(Oracle) ->
         World = world(talking(), Oracle),

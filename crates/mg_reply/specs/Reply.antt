@@ -1,5 +1,5 @@
 -- The items of a reply.
-use Rattle.std.specs.Prelude.{◌≡◌, ℕ, ◌-◌, Bool, true, false, ◌&&◌, ◌||◌}
+use Rattle.std.specs.Prelude.{ℕ, ◌-◌, Bool, true, false, ◌&&◌}
 use Rattle.std.specs.Prelude.{◌==◌, not, List, [], ◌∷◌, ◌++◌, if◌then◌else◌}
 use Rattle.mg_reply.specs.declared.item.Item.{Item}
 use Rattle.mg_reply.specs.declared.item.Item.TheVariants.{Fault, Action}
@@ -29,13 +29,6 @@ last_is_action before (x ∷ xs) = last_is_action (is_action x) xs
 abbrev pub is_refusal : List Item → Bool
 is_refusal (Fault e ∷ []) = true
 is_refusal _ = false
-
--- Whether a reply can be written: it is a single error, or its last action has ended, or it is marked as too long.
-abbrev pub is_whole : Answered → Bool
-is_whole r = r.is_long || is_refusal r.items || last_is_action false r.items
-
-abbrev pub IsWhole : Answered → Type 0
-IsWhole r = is_whole r ≡ true
 
 abbrev pub marked : Answered → Answered
 marked r = record r { is_long = true }

@@ -3,3 +3,4 @@ pub mod Draft
 pub mod Marks
 pub mod Room
 pub mod Width
+pub mod Whole

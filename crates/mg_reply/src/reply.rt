@@ -1,5 +1,6 @@
 ghost use Rattle.std.specs.Prelude.{◌≡◌, [], true, false, IfOk};
-ghost use Rattle.mg_reply.specs.Reply.{after_put, new_reply, is_action, is_whole, IsWhole};
+ghost use Rattle.mg_reply.specs.Reply.{after_put, new_reply, is_action};
+ghost use Rattle.mg_reply.specs.aids.Whole.{is_whole, IsWhole};
 
 use crate::entry_kind::EntryKind;
 use crate::item::Item;

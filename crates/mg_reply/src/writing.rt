@@ -4,7 +4,7 @@ ghost use Rattle.mg_words.specs.Limits.{reply_limit};
 ghost use Rattle.mg_reply.specs.Bytes.{appended};
 ghost use Rattle.mg_reply.specs.aids.Draft.{drafted};
 ghost use Rattle.mg_words.specs.ErrorNumber.{error_text};
-ghost use Rattle.mg_reply.specs.Reply.{IsWhole};
+ghost use Rattle.mg_reply.specs.aids.Whole.{IsWhole};
 ghost use Rattle.mg_reply.specs.Written.{head_text, items_text, reply_text};
 
 use crate::action_writing::put_actions;

@@ -8,8 +8,9 @@ use Rattle.mg_scan.specs.declared.kind.TokenKind.{TokenKind}
 use Rattle.mg_scan.specs.declared.kind.TokenKind.TheVariants.{Word, Open, Close, Comma, Equals, Quoted, Octets}
 use Rattle.mg_words.specs.WordByte.{is_word_byte}
 use Rattle.mg_words.specs.LineEnd.{is_line_end}
-use Rattle.mg_scan.specs.Tokens.{is_blank, is_quote_end, after_white, TokenAndRest, token_and_rest, closed_at, token_at, content_len, has_null, octets_closed, token_after, first_token, spelled}
-use Rattle.mg_scan.specs.White.{IsWhite, nothing, blank, semicolon, comment, line_end}
+use Rattle.mg_scan.specs.Tokens.{is_blank, is_quote_end, after_white, TokenAndRest, token_and_rest, closed_at, token_at, content_len, has_null, octets_closed, token_after, first_token}
+use Rattle.mg_scan.specs.aids.Spelled.{spelled}
+use Rattle.mg_scan.specs.aids.White.{IsWhite, nothing, blank, semicolon, comment, line_end}
 
 pub chosen : {A : Type 0} (b : Bool) (x y z : A) → cond b x y ≡ z → ((b ≡ true) × (x ≡ z)) ⊎ ((b ≡ false) × (y ≡ z))
 chosen true x y z e = inl (refl, e)

@@ -6,7 +6,7 @@ use Rattle.std.specs.List.{position_or_len}
 use Rattle.mg_words.specs.LineEnd.{is_line_end}
 use Rattle.mg_scan.specs.Tokens.{is_blank, after_white}
 
--- Inside a comment, white space continues at the end of the line.
+-- Inside a comment, everything up to the end of the line is skipped, and the white space from there on.
 after_comment-cases : (t : Bool) (n : ℕ) (b : ℕ) (bs : List ℕ) → is_line_end b ≡ t →
     after_white true bs ≡ after_white false (drop n bs) →
     after_white true (b ∷ bs) ≡ after_white false (drop (cond (not t) (1 + n) 0) (b ∷ bs))

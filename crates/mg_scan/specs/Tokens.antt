@@ -1,6 +1,6 @@
 -- The tokens of a source (RFC 3525, Annex B.2). This gateway's profile decides which bytes are
 -- words and which are white space.
-use Rattle.std.specs.Prelude.{ℕ, ◌+◌, Bool, true, false, ◌||◌, ◌&&◌, ◌==◌, not, List, [], ◌∷◌, ◌++◌}
+use Rattle.std.specs.Prelude.{ℕ, ◌+◌, Bool, true, false, ◌||◌, ◌&&◌, ◌==◌, not, List, [], ◌∷◌}
 use Rattle.std.specs.Prelude.{take, drop, Option, Some, None, Result, Ok, Err, codes, if◌then◌else◌}
 use Rattle.std.specs.List.{prefix_len, position_or_len, list_any}
 use Rattle.std.specs.Option.{option_map}
@@ -107,12 +107,6 @@ names_octets _ text = false
 -- the previous token announces a session description.
 abbrev pub first_token : Bool → List ℕ → Option (Result TokenAndRest ScanFault)
 first_token named bytes = token_after named (after_white false bytes)
-
--- The spelling of a token in its source.
-abbrev pub spelled : TokenKind → List ℕ → List ℕ
-spelled Quoted text = 34 ∷ (text ++ 34 ∷ [])
-spelled Octets text = 123 ∷ (text ++ 125 ∷ [])
-spelled _ text = text
 
 -- The number of bytes after a token's text that close the token.
 abbrev pub closing_len : TokenKind → ℕ

@@ -1,2 +1,4 @@
 pub mod Marks
 pub mod Places
+pub mod Spelled
+pub mod White

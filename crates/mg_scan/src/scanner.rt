@@ -1,6 +1,7 @@
 ghost use Rattle.std.specs.Prelude.{◌≡◌, ◌++◌, ℕ, Bool, List, Some, Ok, false};
-ghost use Rattle.mg_scan.specs.Tokens.{TokenAndRest, first_token, spelled};
-ghost use Rattle.mg_scan.specs.White.{IsWhite};
+ghost use Rattle.mg_scan.specs.Tokens.{TokenAndRest, first_token};
+ghost use Rattle.mg_scan.specs.aids.Spelled.{spelled};
+ghost use Rattle.mg_scan.specs.aids.White.{IsWhite};
 ghost use Rattle.mg_scan.specs.Scanner.{IsStep};
 
 use crate::bytes::white_len;

@@ -10,7 +10,8 @@ use Rattle.mg_sdp.specs.declared.fault.SdpFault.TheVariants.{Line, TooMany}
 use Rattle.mg_sdp.specs.declared.alternative.Alternative.{Alternative}
 use Rattle.mg_sdp.specs.Lines.{letter_and_value, is_line, content_lines}
 use Rattle.mg_sdp.specs.Offer.{offer_of}
-use Rattle.mg_sdp.specs.Alternatives.{is_version, IsContentReading}
+use Rattle.mg_sdp.specs.Alternatives.{is_version}
+use Rattle.mg_sdp.specs.aids.Contents.{IsContentReading}
 use Rattle.mg_sdp.specs.Sessions.{one_alternative, alternatives_after, sessions_of}
 use Rattle.mg_sdp.specs.aids.Progress.{Progress}
 use Rattle.mg_sdp.specs.aids.Reader.{with_line, progress_at_start, ended, continued, line_read, offers_at_end, finished}

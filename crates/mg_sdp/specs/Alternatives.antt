@@ -8,7 +8,7 @@ use Rattle.mg_words.specs.Limits.{alternative_limit}
 use Rattle.mg_sdp.specs.declared.fault.SdpFault.{SdpFault}
 use Rattle.mg_sdp.specs.declared.fault.SdpFault.TheVariants.{Line, TooMany}
 use Rattle.mg_sdp.specs.declared.offer.Offer.{Offer}
-use Rattle.mg_sdp.specs.Lines.{content_lines, is_line, line_value}
+use Rattle.mg_sdp.specs.Lines.{is_line, line_value}
 use Rattle.mg_sdp.specs.Offer.{offer_of}
 
 -- Whether a line is a v= line.
@@ -40,9 +40,3 @@ offers_read lines alternatives =
     if not (list_all is_line lines) then Err Line
     else (if nat_lt alternative_limit (length alternatives) then Err TooMany
     else Ok (map offer_of alternatives))
-
--- The result of reading a descriptor's content is what its lines and their alternatives determine.
-abbrev pub IsContentReading : List ℕ → Result (List (Option Offer)) SdpFault → Type 0
-IsContentReading content result =
-    (alternatives : List (List (List ℕ))) × AreAlternatives (content_lines content) alternatives
-    × (result ≡ offers_read (content_lines content) alternatives)

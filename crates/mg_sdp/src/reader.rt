@@ -2,7 +2,7 @@ ghost use Rattle.std.specs.Prelude.{◌≡◌, ◌↔◌, Err, false, OnOk, IfEr
 ghost use Rattle.std.specs.List.{list_all};
 ghost use Rattle.mg_sdp.specs.Lines.{content_lines, is_line};
 ghost use Rattle.mg_sdp.specs.aids.Reader.{progress_at_start, ended, line_read, finished};
-ghost use Rattle.mg_sdp.specs.Alternatives.{IsContentReading};
+ghost use Rattle.mg_sdp.specs.aids.Contents.{IsContentReading};
 ghost use Rattle.mg_sdp.specs.Sessions.{sessions_of};
 
 use crate::alternative::Alternative;

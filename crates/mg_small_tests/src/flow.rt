@@ -65,7 +65,7 @@ enum Action<'a> {
     /// The room has these members.
     Held(u8, Mask),
     Holds(Place, bool),
-    /// Whether a listener hears a talker.
+    /// Whether a talker is heard by a listener.
     Hears(Place, Place, bool),
 }
 
@@ -102,19 +102,19 @@ const CASES: [(&str, &[Action<'static>]); 5] = [
             Action::Enter(THIRD, false, false),
             Action::Held(0, 0b111),
             Action::Apply(&[ISOLATE_ALL], Ok(())),
-            Action::Hears(SECOND, FIRST, false),
+            Action::Hears(FIRST, SECOND, false),
             Action::Leave(FIRST),
             Action::Enter(ELSEWHERE, false, false),
             Action::Held(0, 0b110),
             Action::Held(1, 0b001),
-            Action::Hears(THIRD, SECOND, true),
-            Action::Hears(ELSEWHERE, SECOND, false),
+            Action::Hears(SECOND, THIRD, true),
+            Action::Hears(SECOND, ELSEWHERE, false),
             Action::Leave(ELSEWHERE),
             Action::Enter(FIRST, false, false),
             Action::Holds(ELSEWHERE, false),
-            Action::Hears(SECOND, FIRST, true),
             Action::Hears(FIRST, SECOND, true),
-            Action::Hears(THIRD, FIRST, true),
+            Action::Hears(SECOND, FIRST, true),
+            Action::Hears(FIRST, THIRD, true),
         ],
     ),
     (
@@ -155,7 +155,7 @@ const CASES: [(&str, &[Action<'static>]); 5] = [
             Action::Holds(Place { room: 64, seat: 63 }, false),
             Action::Holds(Place { room: 63, seat: 64 }, false),
             Action::Held(64, mask::EMPTY),
-            Action::Hears(LAST, Place { room: 64, seat: 63 }, false),
+            Action::Hears(Place { room: 64, seat: 63 }, LAST, false),
         ],
     ),
 ];
@@ -205,7 +205,7 @@ fn does(table: &mut FlowTable, action: &Action<'_>) -> bool {
         Action::Masks(place, open, silenced) => has_masks(table, place, open, silenced),
         Action::Held(room, mask) => table.held(room) == mask,
         Action::Holds(place, is_held) => table.holds(place) == is_held,
-        Action::Hears(listener, talker, is_heard) => table.hears(listener, talker) == is_heard,
+        Action::Hears(talker, listener, is_heard) => table.hears(talker, listener) == is_heard,
     }
 }
 

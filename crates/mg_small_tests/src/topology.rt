@@ -48,7 +48,7 @@ enum Action<'a> {
     Holds(usize, bool),
     /// The listener in this seat hears the members in these seats.
     Talkers(usize, Mask),
-    /// Whether a listener hears a talker.
+    /// Whether a talker is heard by a listener.
     Hears(usize, usize, bool),
 }
 
@@ -60,15 +60,15 @@ const CASES: [(&str, &[Action<'static>]); 4] = [
             Action::Enter(0),
             Action::Enter(1),
             Action::Apply(&[ISOLATE, ONEWAY], Ok(())),
-            Action::Hears(1, 0, true),
-            Action::Hears(0, 1, false),
-            Action::Apply(&[ONEWAY, ISOLATE], Ok(())),
+            Action::Hears(0, 1, true),
             Action::Hears(1, 0, false),
+            Action::Apply(&[ONEWAY, ISOLATE], Ok(())),
             Action::Hears(0, 1, false),
+            Action::Hears(1, 0, false),
             // A seat may be in both sets of a Bothway triple.
             Action::Apply(&[ALL_TO_ALL], Ok(())),
-            Action::Hears(1, 0, true),
             Action::Hears(0, 1, true),
+            Action::Hears(1, 0, true),
             Action::Hears(0, 0, false),
         ],
     ),
@@ -110,8 +110,8 @@ const CASES: [(&str, &[Action<'static>]); 4] = [
             Action::Enter(SEATS - 1),
             Action::Holds(SEATS - 1, true),
             Action::Holds(SEATS, false),
-            Action::Hears(SEATS - 1, SEATS, false),
             Action::Hears(SEATS, SEATS - 1, false),
+            Action::Hears(SEATS - 1, SEATS, false),
             Action::Talkers(SEATS, mask::EMPTY),
         ],
     ),
@@ -144,7 +144,7 @@ fn does(topology: &mut Topology, action: &Action<'_>) -> bool {
         Action::Held(mask) => topology.held() == mask,
         Action::Holds(seat, is_held) => topology.holds(seat) == is_held,
         Action::Talkers(seat, mask) => topology.talkers(seat) == mask,
-        Action::Hears(listener, talker, is_heard) => topology.hears(listener, talker) == is_heard,
+        Action::Hears(talker, listener, is_heard) => topology.hears(talker, listener) == is_heard,
     }
 }
 

@@ -5,7 +5,8 @@ use Rattle.std.proofs.lemmas.Nat.Bits.{bit_at_or, bit_at_and, bit_at_not, bit_at
 use Rattle.std.proofs.lemmas.Nat.{one_shl}
 use Rattle.std.proofs.lemmas.Bool.Decides.{nat_tests}
 use Rattle.std.proofs.lemmas.Bool.{cases_lt, false≢true, ne_eqb, and_from, and_parts}
-use Rattle.mg_topology.specs.Mask.{has_seat, is_disjoint, HaveCommonSeat, IsLowest}
+use Rattle.mg_topology.specs.Mask.{has_seat, is_disjoint, HaveCommonSeat}
+use Rattle.mg_topology.specs.aids.Lowest.{IsLowest}
 use Rattle.mg_topology.specs.declared.mask.TheConstants.{SEATS}
 
 -- The width of a mask in bits, one for each seat.
@@ -140,7 +141,5 @@ pub same_mask : (a b : ℕ) → ((s : ℕ) → has_seat a s ≡ has_seat b s) �
 unfolding has_seat
 same_mask a b h = same_from_bits a b (λ i. same_bit _ _ (bit_at-lt a i) (bit_at-lt b i) (h i))
 
--- ---- for proofs elsewhere
--- Rules for goals about seats, here and in the crates above. A function names them as `#[tactic(auto,
--- using(mg_topology::proofs::MaskLemmas::seat_rules))]`.
+-- Rules for goals about seats. A function names them as `#[tactic(auto, using(crate::proofs::MaskLemmas::seat_rules))]`.
 pub ruleset seat_rules = (nat_tests, has_seat-empty, has_seat-full)

@@ -7,7 +7,8 @@ use Rattle.std.proofs.lemmas.Bool.Decides.{nat_tests}
 use Rattle.std.proofs.lemmas.List.Elements.{All-filter, All-contains, filter_passes}
 use Rattle.std.proofs.lemmas.List.Kept.{IsStrictlyIncreasing-filter}
 use Rattle.std.proofs.lemmas.List.FromFn.{length-range_with_len, get_or-range_with_len}
-use Rattle.mg_topology.specs.Mask.{seat_limit, has_seat, seats_of, seat_count, IsEmpty, IsLowest}
+use Rattle.mg_topology.specs.Mask.{seat_limit, has_seat, seats_of, seat_count, IsEmpty}
+use Rattle.mg_topology.specs.aids.Lowest.{IsLowest}
 
 -- The test q agrees with p except that it rejects the number s.
 abbrev IsWithout : (ℕ → Bool) → ℕ → (ℕ → Bool) → Type 0

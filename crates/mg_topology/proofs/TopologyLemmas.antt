@@ -7,7 +7,8 @@ use Rattle.mg_topology.specs.declared.triple.Triple.{Triple}
 use Rattle.mg_topology.specs.Mask.{has_seat}
 use Rattle.mg_topology.specs.Triple.{mentions, word_of}
 use Rattle.mg_topology.specs.aids.Word.{after_triple}
-use Rattle.mg_topology.specs.Edits.{TopologyEdit, Enter, Leave, Apply, is_held, last_word, allows, may_hear, apply_all}
+use Rattle.mg_topology.specs.Edits.{TopologyEdit, Enter, Leave, Apply, is_held, last_word, allows, may_hear}
+use Rattle.mg_topology.specs.aids.Edits.{apply_all}
 use Rattle.mg_topology.specs.aids.Topology.{TopologyState, holds, hears, StandsFor}
 use Rattle.mg_topology.proofs.MaskLemmas.{has_seat-inside}
 
@@ -125,7 +126,7 @@ apply_all-more triples i triple es p e =
     apply_all-push (take i triples) (get_or triples i triple) es
     ∙ ap (λ t. Apply t ∷ apply_all (take i triples) es) (sym e)
 
--- ---- what a topology tells
+-- ---- what a topology says
 
 -- A listener whose seat is held hears the talkers in its row, except itself and seats that are not held.
 pub row_tells : (k : TopologyState) (t l : ℕ) (b : Bool) → k.held < 2 ^ SEATS → holds k l ≡ true

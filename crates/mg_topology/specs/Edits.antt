@@ -41,11 +41,6 @@ hears_in es talker listener =
     is_held es talker
     && (is_held es listener && (not (talker == listener) && may_hear es talker listener))
 
--- The edits followed by the triples in order.
-abbrev pub apply_all : List Triple → List TopologyEdit → List TopologyEdit
-apply_all [] es = es
-apply_all (triple ∷ triples) es = apply_all triples (Apply triple ∷ es)
-
 -- Whether the edit can change the last word on the pair.
 abbrev pub touches : TopologyEdit → ℕ → ℕ → Bool
 touches (Enter n) a b = (a == n) || (b == n)

@@ -1,5 +1,5 @@
 -- A set of seats as the bits of a number (not from a standard).
-use Rattle.std.specs.Prelude.{ℕ, ◌<◌, Bool, ◌==◌, bit_and, List, length, IsTrue, IsFalse}
+use Rattle.std.specs.Prelude.{ℕ, Bool, ◌==◌, bit_and, List, length, IsTrue, IsFalse}
 use Rattle.std.specs.Int.{bit_at}
 use Rattle.std.specs.List.{filter, range_with_len}
 
@@ -33,9 +33,3 @@ pub record HaveCommonSeat (a b : ℕ) : Type 0 where
 -- No seat is in the set.
 abbrev pub IsEmpty : ℕ → Type 0
 IsEmpty mask = (seat : ℕ) → IsFalse (has_seat mask seat)
-
--- The seat is the lowest of the set.
-pub record IsLowest (mask seat : ℕ) : Type 0 where
-  pub below_limit : seat < seat_limit
-  pub is_in : IsTrue (has_seat mask seat)
-  pub is_least : (s : ℕ) → s < seat → IsFalse (has_seat mask s)

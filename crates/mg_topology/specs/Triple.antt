@@ -5,10 +5,6 @@ use Rattle.mg_topology.specs.declared.triple.Triple.{Triple}
 use Rattle.mg_words.specs.declared.association.Association.{Association}
 use Rattle.mg_words.specs.declared.association.Association.TheVariants.{Isolate, Oneway, Bothway}
 
--- A triple that does not mention any pair.
-abbrev pub empty_triple : Triple
-empty_triple = record { first = 0; second = 0; association = Bothway }
-
 -- Whether the talker is in the first set of the triple and the listener in the second.
 abbrev pub is_forward : Triple → ℕ → ℕ → Bool
 is_forward triple talker listener = has_seat triple.first talker && has_seat triple.second listener

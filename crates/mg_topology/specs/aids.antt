@@ -1,3 +1,5 @@
 -- Tools for the proofs.
 pub mod Word
 pub mod Topology
+pub mod Lowest
+pub mod Edits

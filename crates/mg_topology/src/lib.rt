@@ -15,8 +15,8 @@
 //!     second: mask::of_seat(1),
 //!     association: Association::Oneway,
 //! }])?;
-//! assert!(rt; topology.hears(1, 0));
-//! assert!(rt; !topology.hears(0, 1));
+//! assert!(rt; topology.hears(0, 1));
+//! assert!(rt; !topology.hears(1, 0));
 //! ```
 //!
 //! A topology keeps bits, but no history. So its contracts hold for every list of edits that it represents, before and

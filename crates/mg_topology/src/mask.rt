@@ -5,7 +5,8 @@
 //! module deals with bits.
 
 ghost use Rattle.std.specs.Prelude.{◌≡◌, ℕ, ◌+◌, ◌<◌, ◌≤◌, ◌∷◌, ◌&&◌, ◌||◌, ◌==◌, ◌↔◌, not, true, false, IsTrue, IsFalse, IfSome, IfNone, All, length, if◌then◌else◌};
-ghost use Rattle.mg_topology.specs.Mask.{seat_limit, has_seat, seats_of, seat_count, is_disjoint, HaveCommonSeat, IsLowest, IsEmpty};
+ghost use Rattle.mg_topology.specs.Mask.{seat_limit, has_seat, seats_of, seat_count, is_disjoint, HaveCommonSeat, IsEmpty};
+ghost use Rattle.mg_topology.specs.aids.Lowest.{IsLowest};
 
 use crate::seats::Seats;
 

@@ -28,7 +28,8 @@ impl Model for Topology {
 }
 
 impl Topology {
-    ghost use Rattle.mg_topology.specs.Edits.{TopologyEdit, Enter, Leave, Apply, is_held, hears_in, apply_all};
+    ghost use Rattle.mg_topology.specs.Edits.{TopologyEdit, Enter, Leave, Apply, is_held, hears_in};
+    ghost use Rattle.mg_topology.specs.aids.Edits.{apply_all};
     ghost use Rattle.mg_topology.specs.aids.Topology.{holds, hears, StandsFor};
 
     /// Returns the topology of a context without members.
@@ -126,9 +127,7 @@ impl Topology {
 
     /// Returns whether `listener` hears `talker`: both seats are held, they differ, and the last word on the pair
     /// allows it.
-    ///
-    /// The first argument is the listener.
-    pub fn hears(&self, listener: usize, talker: usize) -> bool
+    pub fn hears(&self, talker: usize, listener: usize) -> bool
         ensures kept { result ≡ hears self.now talker listener }
         ensures edits { (es : List TopologyEdit) → StandsFor self.now es →
             result ≡ hears_in es talker listener }

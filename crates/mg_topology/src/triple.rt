@@ -22,7 +22,7 @@ pub struct Triple {
 /// The default is a triple that doesn't mention any pair.
 impl Default for Triple {
     ghost use Rattle.std.specs.Prelude.{◌≡◌};
-    ghost use Rattle.mg_topology.specs.Triple.{empty_triple};
+    ghost use Rattle.mg_topology.specs.aids.Word.{empty_triple};
 
     ghost is_default = { λ triple. triple ≡ empty_triple };
 

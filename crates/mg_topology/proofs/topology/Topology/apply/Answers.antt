@@ -1,6 +1,6 @@
 use Rattle.std.proofs.Common.{refl, sym, ◌∙◌, rules, take}
 use Rattle.std.proofs.lemmas.Bool.{false≢true}
-use Rattle.mg_topology.specs.Edits.{apply_all}
+use Rattle.mg_topology.specs.aids.Edits.{apply_all}
 use Rattle.mg_topology.proofs.TopologyLemmas.{apply_all-more}
 use Rattle.mg_topology.proofs.TripleLemmas.{list_any-overlaps}
 use Rattle.mg_topology.proofs.topology.Topology.apply.Goals as goal

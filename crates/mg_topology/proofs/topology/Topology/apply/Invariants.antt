@@ -1,5 +1,6 @@
 use Rattle.std.proofs.Common.{◌≡◌, List, take}
-use Rattle.mg_topology.specs.Edits.{TopologyEdit, apply_all}
+use Rattle.mg_topology.specs.Edits.{TopologyEdit}
+use Rattle.mg_topology.specs.aids.Edits.{apply_all}
 use Rattle.mg_topology.specs.aids.Topology.{StandsFor}
 use Rattle.mg_topology.proofs.topology.Topology.apply.Given as goal
 

@@ -35,8 +35,8 @@ fn audit_pair(engine: &Engine, first: &NamedMember, second: &NamedMember) -> Ite
     requires second { IsOnSeat engine.now.rooms second.now }
     ensures value { (w : Gateway) → StandsFor engine.now w → result ≡ audit_pair w first.now.number second.now.number }
 {
-    let second_hears = engine.hears_seated(second.seated(), first.seated());
-    let first_hears = engine.hears_seated(first.seated(), second.seated());
+    let second_hears = engine.hears_seated(first.seated(), second.seated());
+    let first_hears = engine.hears_seated(second.seated(), first.seated());
     pair_item(second_hears, first_hears, first, second)
 }
 

@@ -6,7 +6,7 @@ ghost use Rattle.mg_commands.specs.aids.Words.{stream_word, controls_within, des
 use crate::part::Part;
 use mg_text::{AuditWord, ControlPart, Descriptor, MediaPart, StreamPart};
 
-/// Splits a part of a stream into its keyword and the content of its LocalControl.
+/// Returns a part of a stream and, if it is a LocalControl, its content.
 pub fn open_stream_part(stream: u32, part: &StreamPart) -> (Part, &[ControlPart])
     ensures word { result.0 ≡ stream_word stream part.now }
     ensures controls { result.1.now ≡ controls_within part.now }

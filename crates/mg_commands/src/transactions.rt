@@ -1,7 +1,8 @@
 ghost use Rattle.std.specs.Prelude.{◌≡◌, ◌⊎◌, ◌||◌, ◌<◌, ◌*◌, length, map, true, false, None};
 ghost use Rattle.std.specs.List.{list_all};
 ghost use Rattle.mg_words.specs.Leads.{Leads};
-ghost use Rattle.mg_reply.specs.Reply.{IsWhole, new_reply, after_put, after_all, is_refusal, last_is_action};
+ghost use Rattle.mg_reply.specs.Reply.{new_reply, after_put, after_all, is_refusal, last_is_action};
+ghost use Rattle.mg_reply.specs.aids.Whole.{IsWhole};
 ghost use Rattle.mg_reply.specs.aids.Width.{is_wide};
 ghost use Rattle.mg_engine.specs.Gateway.{Gateway};
 ghost use Rattle.mg_engine.specs.aids.Stands.{StandsFor};

@@ -12,7 +12,8 @@ pub use Rattle.mg_engine.specs.Outcome.{added, done_with, existing_context, medi
 pub use Rattle.mg_engine.specs.aids.Place.{IsOnPlace, IsOnSeat, member_place, place_of, seated_place}
 pub use Rattle.mg_engine.specs.aids.Stands.{EngineState, IsMediaOf, IsOutcome, ShareContext, StandsFor, media_at}
 pub use Rattle.mg_engine.specs.Steps.{counted_up, play_after, received, transmitted}
-pub use Rattle.mg_engine.specs.Tick.{after_tick, after_ticks, all_ended, all_played, concealed_in_tick, concealed_in_ticks, conceals, header_of, packet, packet_of, packets, played, sends_at, sent, sent_to, type_of}
+pub use Rattle.mg_engine.specs.Tick.{after_tick, all_ended, all_played, concealed_in_tick, conceals, header_of, packet, packet_of, packets, played, sends_at, sent, sent_to, type_of}
+pub use Rattle.mg_engine.specs.aids.Ticks.{after_ticks, concealed_in_ticks}
 pub use Rattle.mg_engine.specs.Triples.{check_triple, check_triples, is_barred, matched, names_others, with_triples}
 pub use Rattle.mg_engine.specs.Work.{RisesAtMost, sending_work, silenced_for, tick_work}
 pub use Rattle.mg_engine.specs.aids.Agreement.{AgreementIsMutual, EndsAlike, OneArrivalKeepsAgreement, SameArrivalKeepsAgreement, SameEditsKeepAgreement, SameStatsButReceived, SameTickKeepsAgreement}
@@ -34,7 +35,9 @@ pub use Rattle.mg_engine.specs.declared.engine.Engine.TheView.{view}
 pub use Rattle.mg_engine.specs.declared.share.Share.{Share}
 pub use Rattle.mg_engine.specs.declared.taken.Taken.{Taken}
 pub use Rattle.mg_engine.specs.declared.topology_triple.TopologyTriple.{TopologyTriple}
-pub use Rattle.mg_flow.specs.Place.{IsWithinLimits, are_together, is_same_place, sibling_place}
+pub use Rattle.mg_flow.specs.Place.{are_together, is_same_place}
+pub use Rattle.mg_flow.specs.aids.Place.{sibling_place}
+pub use Rattle.mg_flow.specs.aids.Place.{IsWithinLimits}
 pub use Rattle.mg_flow.specs.aids.Table.{KeepsOthers, KeepsPlaces, RoomFlows, SetsPlace, flows, hears, hears_after, holds, listens_at, room_at, talks_at}
 pub use Rattle.mg_flow.specs.declared.place.Place.{Place}
 pub use Rattle.mg_g711.specs.Law.{byte_of}
@@ -50,7 +53,8 @@ pub use Rattle.mg_rooms.specs.aids.Lasting.{Lasts, LeavesOthers}
 pub use Rattle.mg_rooms.specs.Limits.{slot_port}
 pub use Rattle.mg_rooms.specs.aids.Member.{ExistsAs}
 pub use Rattle.mg_rooms.specs.Outcome.{add, is_number, modify, move_to, subtract}
-pub use Rattle.mg_rooms.specs.Registry.{IsMember, Registry, context_at, holder_of, members_at, record_at, start_of}
+pub use Rattle.mg_rooms.specs.Registry.{Registry, context_at, holder_of, members_at, record_at, start_of}
+pub use Rattle.mg_rooms.specs.aids.Sound.{IsMember}
 pub use Rattle.mg_rooms.specs.aids.Sound.{IsSound}
 pub use Rattle.mg_rooms.specs.declared.context.Context.{Context}
 pub use Rattle.mg_rooms.specs.declared.limits.Limits.{Limits}

@@ -13,7 +13,7 @@ byte_is : (b : Bool) → from_bool b ≡ cond b 1 0
 byte_is true = refl
 byte_is false = refl
 
--- The count with one more slot increases by one if the frame of that slot is concealed.
+-- One more slot increases the count by one if the frame of that slot is concealed, and otherwise by nothing.
 pub counted_more : (kept : List SlotMedia) (slots : List ℕ) (i : ℕ) (b : Bool) → i < length slots →
     b ≡ conceals_slot kept (get_or slots i 0) →
     count_by (conceals_slot kept) (take i slots) + from_bool b ≡ count_by (conceals_slot kept) (take (i + 1) slots)

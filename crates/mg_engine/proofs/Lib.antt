@@ -32,3 +32,5 @@ pub mod OrderLemmas
 pub mod ElsewhereLemmas
 pub mod UnaffectedLemmas
 pub mod ApartLemmas
+pub mod QuietLemmas
+pub mod RestoringLemmas

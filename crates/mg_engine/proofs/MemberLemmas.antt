@@ -4,7 +4,7 @@ use Rattle.mg_flow.specs.aids.Table as flow
 use Rattle.mg_engine.specs.aids.Members.{Enters, Leaves, TakesMode, SaysOf}
 use Rattle.mg_engine.proofs.PlaceLemmas.{at, seated, place, one_record, one_place, one_member, in_one_room, apart_places}
 
-same_is : (p : Place) → is_same_place p p ≡ true
+pub same_is : (p : Place) → is_same_place p p ≡ true
 same_is p = rw (eq-eqb p.room p.room refl, eq-eqb p.seat p.seat refl) refl
 
 is_place : (p q : Place) → is_same_place p q ≡ true → p ≡ q

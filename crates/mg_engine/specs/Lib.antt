@@ -11,5 +11,6 @@ pub mod Work
 pub mod Isolation
 pub mod Unaffected
 pub mod Apart
+pub mod Restored
 pub mod aids
 pub use Rattle.mg_rooms.specs.Limits

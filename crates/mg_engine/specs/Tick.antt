@@ -1,16 +1,15 @@
 -- The effects of a tick of 20 ms, and the packets that it sends (RFC 3550, section 5.1; RFC 3551, sections 4.1 and 6).
-use Rattle.std.specs.Prelude.{ℕ, zero, suc, ◌+◌, ◌-◌, ◌*◌, ◌%◌, ◌^◌, Bool, true, false, not, List}
+use Rattle.std.specs.Prelude.{ℕ, ◌+◌, ◌-◌, ◌*◌, ◌%◌, ◌^◌, Bool, true, false, not, List}
 use Rattle.std.specs.Prelude.{◌++◌, map}
 use Rattle.std.specs.Prelude.{count_by, filter_map, Option, None, is_some, if◌then◌else◌}
-use Rattle.std.specs.Fn.{iterate}
 use Rattle.std.specs.Option.{option_map, option_map_or}
-use Rattle.mg_words.specs.OptionSteps.{◌>>=◌}
 use Rattle.mg_g711.specs.declared.law.Law.{Law}
 use Rattle.mg_g711.specs.declared.law.Law.TheVariants.{Mu, A}
 use Rattle.mg_g711.specs.Law.{byte_of}
 use Rattle.mg_rtp.specs.declared.header.Header.{Header}
 use Rattle.mg_rtp.specs.Header.{header_bytes, plain}
 use Rattle.mg_sdp.specs.declared.chosen.Chosen.{Chosen}
+use Rattle.mg_words.specs.OptionSteps.{◌>>=◌}
 use Rattle.mg_playout.specs.Played.{is_concealed, sound_of}
 use Rattle.mg_playout.specs.Playout as play_lists
 use Rattle.mg_words.specs.declared.mode.Mode.{Mode}
@@ -109,14 +108,3 @@ after_tick w = all_ended (all_played w)
 
 abbrev pub sent_in_tick : Gateway → List Datagram
 sent_in_tick w = packets (all_played w)
-
--- ## Ticks, one after another
-
-abbrev pub after_ticks : ℕ → Gateway → Gateway
-after_ticks count w = iterate after_tick count w
-
--- The number of missing frames that this many ticks conceal.
-abbrev pub concealed_in_ticks : ℕ → Gateway → ℕ
-concealed_in_ticks zero w = 0
-concealed_in_ticks (suc count) w =
-    concealed_in_tick w + concealed_in_ticks count (after_tick w)

@@ -2,7 +2,6 @@
 -- (RFC 3525, section 7.1.18). The error numbers and the order of the checks are this project's own.
 use Rattle.std.specs.Prelude.{ℕ, Bool, true, false, not, ◌&&◌, ◌||◌, List, [], ◌∷◌, Result, Ok}
 use Rattle.std.specs.List.{list_any}
-use Rattle.mg_words.specs.declared.association.Association.TheVariants.{Isolate}
 use Rattle.mg_words.specs.declared.error_number.ErrorNumber.{ErrorNumber}
 use Rattle.mg_words.specs.declared.error_number.ErrorNumber.TheVariants as errors
 use Rattle.mg_words.specs.ResultSteps.{◌>>=◌}
@@ -18,10 +17,6 @@ use Rattle.mg_engine.specs.Flow.{has}
 -- The maximum number of triples in an edit. A datagram cannot hold more.
 abbrev pub triple_limit : ℕ
 triple_limit = 1200
-
--- A triple that causes its edit to fail.
-abbrev pub barred_triple : TopologyTriple
-barred_triple = record { first = Barred; second = Barred; association = Isolate }
 
 -- The terminations that a term matches: all members, the termination that the term names, or none.
 abbrev pub matched : List ℕ → TripleTerm → List ℕ

@@ -17,3 +17,6 @@ pub mod Totals
 pub mod Media
 pub mod Place
 pub mod Datagram
+pub mod Quiet
+pub mod Restoring
+pub mod Ticks

@@ -19,7 +19,8 @@ ghost use Rattle.mg_engine.specs.aids.Totals.{RepresentsTotals};
 ghost use Rattle.mg_engine.specs.Work.{RisesAtMost, sending_work, tick_work};
 ghost use Rattle.mg_engine.specs.declared.datagram.Datagram.{Datagram};
 ghost use Rattle.mg_engine.specs.aids.Place.{IsOnPlace, IsOnSeat};
-ghost use Rattle.mg_engine.specs.Tick.{sends, sent_to, packets, all_played, all_ended, sent_in_tick, after_tick, after_ticks, conceals, concealed_in_tick, concealed_in_ticks};
+ghost use Rattle.mg_engine.specs.Tick.{sends, sent_to, packets, all_played, all_ended, sent_in_tick, after_tick, conceals, concealed_in_tick};
+ghost use Rattle.mg_engine.specs.aids.Ticks.{after_ticks, concealed_in_ticks};
 ghost use Rattle.mg_g711.specs.Law.{byte_of};
 ghost use Rattle.mg_words.specs.Mode.{listens};
 ghost use Rattle.mg_flow.specs.aids.Table as table;
@@ -73,20 +74,20 @@ use std::marker::Model;
 /// The state of a gateway: terminations and contexts, media, who hears whom, and each context's total.
 #[derive(Drop)]
 pub struct Engine {
-    config: Config,
-    rooms: Rooms,
+    pub(crate) config: Config,
+    pub(crate) rooms: Rooms,
     /// The media of each slot.
-    media: Vec<HeldMedia>,
+    pub(crate) media: Vec<HeldMedia>,
     /// The slots that terminations hold, in order of termination number.
-    held: ArrayVec<u8, TERMINATIONS>,
+    pub(crate) held: ArrayVec<u8, TERMINATIONS>,
     /// Who hears whom, in terms of the members' places.
-    flows: FlowTable,
+    pub(crate) flows: FlowTable,
     /// The slot of the member at each place.
-    seating: Seating,
+    pub(crate) seating: Seating,
     /// The current frame of each slot, and the total of each room.
-    sums: Sums,
+    pub(crate) sums: Sums,
     /// The packets of this tick whose payloads can be shared.
-    shares: Shares,
+    pub(crate) shares: Shares,
 }
 
 impl Model for Engine {
@@ -477,15 +478,15 @@ impl Engine {
     /// Returns whether `listener` hears `talker`, regardless of modes.
     ///
     /// The listener hears the talker if they are different members of the same context and the last word on the pair
-    /// allows it. The first argument is the listener.
-    pub fn hears(&self, listener: u32, talker: u32) -> bool
+    /// allows it.
+    pub fn hears(&self, talker: u32, listener: u32) -> bool
         ensures value { (w : Gateway) → StandsFor self.now w → result ≡ hears w talker listener }
     {
         match (self.rooms.member(talker), self.rooms.member(listener)) {
             (Some(speaking), Some(hearing)) => {
                 let from = member_place(speaking);
                 let to = member_place(hearing);
-                self.flows.hears(to, from)
+                self.flows.hears(from, to)
             }
             _ => false,
         }
@@ -502,15 +503,15 @@ impl Engine {
         seated_members(&self.rooms, self.rooms.members(context))
     }
 
-    /// Returns whether `listener` hears `talker`, regardless of modes. The first argument is the listener.
-    pub fn hears_seated(&self, listener: SeatedMember, talker: SeatedMember) -> bool
-        requires listener { IsOnSeat self.now.rooms listener }
+    /// Returns whether `listener` hears `talker`, regardless of modes.
+    pub fn hears_seated(&self, talker: SeatedMember, listener: SeatedMember) -> bool
         requires talker { IsOnSeat self.now.rooms talker }
+        requires listener { IsOnSeat self.now.rooms listener }
         ensures value { (w : Gateway) → StandsFor self.now w → result ≡ hears w talker.number listener.number }
     {
         let from = talker.place();
         let to = listener.place();
-        self.flows.hears(to, from)
+        self.flows.hears(from, to)
     }
 
     /// Returns the sum of sample `i` over all talkers of a context in this tick. The sum is not saturated to 16 bits.
@@ -652,7 +653,7 @@ impl Engine {
     }
 
     /// Returns the slot of the i-th termination, in order of termination number.
-    fn held_at(&self, i: usize) -> u8
+    pub(crate) fn held_at(&self, i: usize) -> u8
         requires there { i < length self.now.rooms.terminations }
         ensures value { result ≡ slice_index_or (map (λ r. r.slot) self.now.rooms.terminations) i 0 }
     {

@@ -24,6 +24,10 @@
 //! [`Engine::skip`] runs many ticks without packets. Once all play lists are idle and all frames silent, the remaining
 //! ticks take one step. The cost of that step grows only with the number of terminations.
 //!
+//! A new engine can be filled with the terminations of another one: [`Engine::skip_to`], [`Engine::restore`] and
+//! [`Engine::set_word`]. It then has everything that the other one had, except for the speech that was received
+//! (`without_speech` in `specs/Restored.antt`). [`theorems::quiet_engines_represent`] states when.
+//!
 //! The engine keeps no history, so one state may represent several gateways. Its contracts hold for every `Gateway`
 //! (`specs/Gateway.antt`) that the state represents, before and after a call (`StandsFor` in `specs/aids/Stands.antt`).
 #![tactic(auto)]
@@ -39,10 +43,12 @@ mod joining;
 mod media;
 mod membership;
 mod mixing;
+mod restoring;
 mod room_shares;
 mod seated_member;
 mod seating;
 mod sending;
+mod sent_media;
 mod share;
 mod shares;
 mod skipping;
@@ -59,6 +65,7 @@ pub use crate::edit::Edit;
 pub use crate::engine::Engine;
 pub use crate::fault::StartFault;
 pub use crate::seated_member::SeatedMember;
+pub use crate::sent_media::SentMedia;
 pub use crate::taken::{DropCause, Taken};
 pub use crate::topology_triple::{FEW_TRIPLES, TRIPLES, TopologyTriple, TopologyTriples};
 pub use crate::triple_term::TripleTerm;

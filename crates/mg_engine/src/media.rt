@@ -1,5 +1,7 @@
-ghost use Rattle.std.specs.Prelude.{◌≡◌, IfOk};
+ghost use Rattle.std.specs.Prelude.{◌≡◌, ◌≤◌, IfOk};
+ghost use Rattle.mg_words.specs.Limits.{least_depth, greatest_depth};
 
+use crate::sent_media::SentMedia;
 use mg_g711::Frame;
 use mg_playout::{Placed, Played, Playout};
 use mg_rooms::depth_within;
@@ -38,6 +40,7 @@ impl Model for HeldMedia {
 impl HeldMedia {
     ghost use Rattle.mg_engine.specs.aids.Media.{idle};
     ghost use Rattle.mg_engine.specs.aids.MediaSteps.{initial_media_at, slot_tuned, slot_placed, slot_played, frame_played, is_concealing, header, slot_ended, slot_passed};
+    ghost use Rattle.mg_engine.specs.aids.Quiet.{sent_in, media_restored};
     ghost use Rattle.mg_playout.specs.Playout.{is_idle};
     ghost use Rattle.mg_playout.specs.Played.{is_concealed, sound_of};
     ghost use Rattle.mg_sums.specs.Samples.{frame_or_silence};
@@ -65,6 +68,37 @@ impl HeldMedia {
         self.timestamp = timestamp.wrapping_sub(SAMPLES as u32);
         self.sequence = sequence;
         self.is_sending = false;
+    }
+
+    /// Resets the media for a termination that has sent this and received nothing. Its play list has this depth.
+    pub fn restore(&mut self, depth: u8, sent: SentMedia)
+        requires depth { (least_depth ≤ depth) × (depth ≤ greatest_depth) }
+        ensures value { self.new ≡ media_restored depth sent }
+    {
+        self.play.clear();
+        self.play.set_depth(usize::from(depth));
+        self.stats = Stats {
+            ps: sent.sent,
+            pr: 0,
+            os: sent.octets,
+            or_: 0,
+        };
+        self.timestamp = sent.timestamp;
+        self.sequence = sent.sequence;
+        self.is_sending = sent.is_sending;
+    }
+
+    /// Returns what the termination has sent.
+    pub fn sent(&self) -> SentMedia
+        ensures value { result ≡ sent_in self.now }
+    {
+        SentMedia {
+            timestamp: self.timestamp,
+            sequence: self.sequence,
+            is_sending: self.is_sending,
+            sent: self.stats.ps,
+            octets: self.stats.os,
+        }
     }
 
     /// Sets the depth of the play list, within the limits, if a command specifies a depth.

@@ -3,7 +3,7 @@
 
 ghost use Rattle.std.specs.Prelude.{◌≡◌, ◌<◌, IsFalse, IsTrue, length, slice_set};
 ghost use Rattle.mg_words.specs.Limits.{termination_limit};
-ghost use Rattle.mg_flow.specs.Place.{IsWithinLimits};
+ghost use Rattle.mg_flow.specs.aids.Place.{IsWithinLimits};
 ghost use Rattle.mg_flow.specs.aids.Table as table;
 ghost use Rattle.mg_engine.specs.aids.Place.{place_of, member_place};
 ghost use Rattle.mg_engine.specs.aids.Seating.{index_of};

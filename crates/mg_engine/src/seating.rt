@@ -1,5 +1,5 @@
 ghost use Rattle.std.specs.Prelude.{◌≡◌, ◌<◌, ◌+◌, ◌*◌, IfOk, replicate, slice_set};
-ghost use Rattle.mg_flow.specs.Place.{IsWithinLimits};
+ghost use Rattle.mg_flow.specs.aids.Place.{IsWithinLimits};
 ghost use Rattle.mg_engine.specs.aids.Seating.{slot_at, index_of, place_count};
 
 use mg_flow::Place;

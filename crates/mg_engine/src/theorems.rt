@@ -18,7 +18,10 @@ ghost use Rattle.mg_engine.specs.Outcome.{add, modify, move_to, subtract, apply_
 ghost use Rattle.mg_engine.specs.Unaffected.{EditsDoNotAffectOthers, DatagramsDoNotAffectOthers};
 ghost use Rattle.mg_engine.specs.aids.Order.{ArrivalOrderIsIrrelevant};
 ghost use Rattle.mg_engine.specs.Isolation.{NoneHearsItself, OwnSpeechChangesNoPacket, PacketsDependOnHeard, IsolatedAreNotHeard, UnheardChangesNoPacket, PayloadsAreMixes};
+ghost use Rattle.mg_engine.specs.Restored.{without_speech};
 ghost use Rattle.mg_engine.specs.Triples.{triple_limit};
+ghost use Rattle.mg_engine.specs.aids.Quiet.{AgreeInCheckpoint, HaveDepths, IsQuiet};
+ghost use Rattle.mg_engine.specs.aids.Stands.{EngineState, StandsFor};
 
 use crate::topology_triple::TRIPLES;
 use mg_rtp::theorems::one_reading;
@@ -127,9 +130,19 @@ pub fn agreement_lasts()
 /// A packet depends only on what its listener hears, on the listener's ticks and packets so far, and on the gateway's
 /// configuration, terminations, contexts and edits.
 ///
-/// Take two gateways that differ only in what some terminations received, and a listener that hears none of these
-/// terminations. In a tick, both gateways send this listener the same packet, byte for byte, or none.
+/// Suppose that two gateways differ only in what some terminations received, and that a listener hears none of those
+/// terminations. In a tick, both gateways then send this listener the same packet, byte for byte, or none.
 pub fn packets_depend_on_heard()
     ensures theorem { PacketsDependOnHeard }
     ensures packets { SamePackets }
+{}
+
+/// A quiet engine represents every gateway that has the same checkpoint as a gateway that it represents, but without the
+/// speech that this gateway received.
+///
+/// An engine is quiet if its terminations have received nothing. An engine without terminations is quiet.
+pub fn quiet_engines_represent()
+    ensures start { (k : EngineState) (config : Config) → StandsFor k (start_of config) → IsQuiet k }
+    ensures theorem { (k : EngineState) (b w : Gateway) → IsQuiet k → StandsFor k b → AgreeInCheckpoint b w →
+        HaveDepths w → StandsFor k (without_speech w) }
 {}

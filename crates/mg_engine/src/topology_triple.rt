@@ -22,7 +22,7 @@ pub struct TopologyTriple {
 /// The default is a triple that is not allowed, so an edit that contains it fails.
 impl Default for TopologyTriple {
     ghost use Rattle.std.specs.Prelude.{◌≡◌};
-    ghost use Rattle.mg_engine.specs.Triples.{barred_triple};
+    ghost use Rattle.mg_engine.specs.aids.Triples.{barred_triple};
 
     ghost is_default = { λ triple. triple ≡ barred_triple };
 

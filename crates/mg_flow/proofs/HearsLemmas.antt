@@ -5,10 +5,12 @@ use Rattle.std.proofs.Math.Logic.{∥∥₁_elim}
 use Rattle.std.proofs.lemmas.Bool.Decides.{nat_tests}
 use Rattle.mg_topology.specs.declared.triple.Triple.{Triple}
 use Rattle.mg_topology.specs.Triple.{mentions, word_of}
+use Rattle.mg_topology.specs.aids.Edits.{apply_all}
 use Rattle.mg_topology.specs.Edits as topology
 use Rattle.mg_flow.specs.declared.place.Place.{Place}
 use Rattle.mg_flow.specs.Place.{is_same_place, are_together}
-use Rattle.mg_flow.specs.Edits.{FlowEdit, Enter, Leave, SetMode, Apply, apply_in_room, edits_in, is_held, may_hear}
+use Rattle.mg_flow.specs.Edits.{FlowEdit, Enter, Leave, SetMode, Apply, edits_in, is_held, may_hear}
+use Rattle.mg_flow.specs.aids.Edits.{apply_in_room}
 use Rattle.mg_flow.specs.Edits.{hears_in}
 use Rattle.mg_flow.specs.aids.Table.{RoomFlows, holds, hears, hears_after, StandsFor, StandsForSome}
 use Rattle.mg_flow.proofs.TableLemmas.{own_triples, hears-stands}
@@ -114,7 +116,7 @@ allows-triple x o t l true = refl
 allows-triple x o t l false = refl
 
 words-triples : (triples : List Triple) (es : List topology.TopologyEdit) (t l : ℕ)
-    → topology.may_hear (topology.apply_all triples es) t l ≡ hears_after triples t l (topology.may_hear es t l)
+    → topology.may_hear (apply_all triples es) t l ≡ hears_after triples t l (topology.may_hear es t l)
 words-triples [] es t l = refl
 words-triples (x ∷ xs) es t l =
     words-triples xs (topology.Apply x ∷ es) t l

@@ -3,3 +3,4 @@ pub mod HearsLemmas
 pub mod MasksLemmas
 pub mod SeatLemmas
 pub mod TableLemmas
+mod WordLemmas

@@ -8,11 +8,14 @@ use Rattle.std.proofs.lemmas.Bool.Decides.{nat_tests}
 use Rattle.mg_topology.specs.declared.overlap.Overlap.{Overlap}
 use Rattle.mg_topology.specs.declared.triple.Triple.{Triple}
 use Rattle.mg_topology.specs.Mask.{seat_limit, has_seat}
+use Rattle.mg_topology.specs.aids.Edits.{apply_all}
 use Rattle.mg_topology.specs.Edits as topology
 use Rattle.mg_topology.specs.aids.Topology as kept
 use Rattle.mg_flow.specs.declared.place.Place.{Place}
-use Rattle.mg_flow.specs.Place.{is_same_place, sibling_place, are_together}
-use Rattle.mg_flow.specs.Edits.{FlowEdit, Enter, Leave, SetMode, Apply, apply_in_room, edits_in, is_held, talks_in}
+use Rattle.mg_flow.specs.Place.{is_same_place, are_together}
+use Rattle.mg_flow.specs.aids.Place.{sibling_place}
+use Rattle.mg_flow.specs.Edits.{FlowEdit, Enter, Leave, SetMode, Apply, edits_in, is_held, talks_in}
+use Rattle.mg_flow.specs.aids.Edits.{apply_in_room}
 use Rattle.mg_flow.specs.Edits.{listens_in, may_hear, hears_in, flows_in, is_silenced_in}
 use Rattle.mg_flow.specs.aids.RoomFlows.{flows_to, is_blocked_for, IsVacant, SetsSeat}
 use Rattle.mg_flow.specs.aids.Table.{IsFlowTable}
@@ -180,11 +183,11 @@ mode_stands {table} {place} {i} {s} {old} {new} {t} {l} read same set es h =
 -- ---- triples in order
 
 pub own_triples : (room : ℕ) (triples : List Triple) (es : List FlowEdit)
-    → edits_in room (apply_in_room room triples es) ≡ topology.apply_all triples (edits_in room es)
+    → edits_in room (apply_in_room room triples es) ≡ apply_all triples (edits_in room es)
 own_triples room [] es = refl
 own_triples room (triple ∷ triples) es =
     own_triples room triples (Apply room triple ∷ es)
-    ∙ ap (λ x. topology.apply_all triples (cond x (topology.Apply triple ∷ edits_in room es) (edits_in room es)))
+    ∙ ap (λ x. apply_all triples (cond x (topology.Apply triple ∷ edits_in room es) (edits_in room es)))
     (eq-eqb room room refl)
 
 other_triples : (room k : ℕ) (triples : List Triple) (es : List FlowEdit)
@@ -216,7 +219,7 @@ seat_kept f table i r p within same =
 pub triples_stand : (table : List RoomFlows) (room i : ℕ) (triples : List Triple) (old new : RoomFlows) → i ≡ room →
     i < length table → old ≡ get_or table i old
     → ((edits : List topology.TopologyEdit) → kept.StandsFor old.topology edits →
-    kept.StandsFor new.topology (topology.apply_all triples edits))
+    kept.StandsFor new.topology (apply_all triples edits))
     → new.talks ≡ old.talks → new.listens ≡ old.listens
     → (es : List FlowEdit) → StandsFor table es → StandsFor (slice_set table i new) (apply_in_room room triples es)
 triples_stand table room i triples old new number within is edits talkers listeners es h =
@@ -265,7 +268,7 @@ IsFlowTable-tried (Ok u) table i old new edit within is ok err h = IsFlowTable-e
 IsFlowTable-tried (Err e) table i old new edit within is ok err h =
     IsFlowTable-edited table i new (λ es. es) (same_stands table i old new within is err) h
 
--- ---- what a table tells
+-- ---- what a table says
 
 pub hears-stands : (table : List RoomFlows) (es : List FlowEdit) (t l : Place) → StandsFor table es
     → hears table t l ≡ hears_in es t l

@@ -14,11 +14,6 @@ pub data FlowEdit : Type 0 where
   SetMode : (place : Place) → (talks listens : Bool) → FlowEdit
   Apply : (room : ℕ) → (triple : Triple) → FlowEdit
 
--- The edits followed by the triples in order.
-abbrev pub apply_in_room : ℕ → List Triple → List FlowEdit → List FlowEdit
-apply_in_room room [] es = es
-apply_in_room room (triple ∷ triples) es = apply_in_room room triples (Apply room triple ∷ es)
-
 -- The edits of a room, with one more edit if that edit belongs to the room.
 abbrev pub with_edit_if : Bool → topology.TopologyEdit → List topology.TopologyEdit →
     List topology.TopologyEdit

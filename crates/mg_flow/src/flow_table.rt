@@ -4,8 +4,11 @@ ghost use Rattle.std.specs.Prelude.{◌≡◌, ℕ, ◌<◌, ◌||◌, if◌then
 ghost use Rattle.mg_words.specs.Limits.{context_limit};
 ghost use Rattle.mg_topology.specs.Mask.{has_seat};
 ghost use Rattle.mg_topology.specs.Triple.{Overlaps};
-ghost use Rattle.mg_flow.specs.Place.{IsWithinLimits, is_same_place, sibling_place, are_together};
+ghost use Rattle.mg_flow.specs.Place.{is_same_place, are_together};
+ghost use Rattle.mg_flow.specs.aids.Place.{sibling_place};
+ghost use Rattle.mg_flow.specs.aids.Place.{IsWithinLimits};
 
+use crate::last_word::word_on;
 use crate::place::Place;
 use crate::room_flows::RoomFlows;
 use mg_topology::mask::{self, Mask};
@@ -40,7 +43,9 @@ impl Model for FlowTable {
 }
 
 impl FlowTable {
-    ghost use Rattle.mg_flow.specs.Edits.{FlowEdit, Enter, Leave, SetMode, apply_in_room, is_held, hears_in, flows_in, is_silenced_in};
+    ghost use Rattle.mg_flow.specs.Edits.{FlowEdit, Enter, Leave, SetMode, is_held, hears_in, flows_in, is_silenced_in};
+    ghost use Rattle.mg_flow.specs.aids.Edits.{apply_in_room};
+    ghost use Rattle.mg_flow.specs.aids.Words.{are_at};
     ghost use Rattle.mg_flow.specs.aids.Table.{StandsFor, StandsForSome, KeepsOthers, SetsPlace, KeepsPlaces, holds, hears, hears_after, flows, is_silenced};
 
     /// Creates the table of a gateway whose rooms are all empty.
@@ -82,9 +87,7 @@ impl FlowTable {
 
     /// Returns whether `listener` hears `talker`: they are different members of the same room, and the last word on the
     /// pair allows it.
-    ///
-    /// The first argument is the listener.
-    pub fn hears(&self, listener: Place, talker: Place) -> bool
+    pub fn hears(&self, talker: Place, listener: Place) -> bool
         ensures kept { result ≡ hears self.now talker listener }
         ensures edits { (es : List FlowEdit) → StandsFor self.now es →
             result ≡ hears_in es talker listener }
@@ -189,6 +192,25 @@ impl FlowTable {
     {
         let spoken_of = &mut self.rooms[usize::from(room)];
         spoken_of.apply(triples)
+    }
+
+    /// Sets the last word on two members of a room, in one direction: whether `listener` hears `talker`.
+    ///
+    /// Whether the talker hears the listener is unchanged.
+    pub fn set_word(&mut self, talker: Place, listener: Place, is_heard: bool)
+        requires talker { IsWithinLimits talker }
+        requires listener { IsWithinLimits listener }
+        requires together { IsTrue (are_together (holds self.old) talker listener) }
+        ensures places { KeepsPlaces self.old self.new }
+        ensures hears { (t l : Place) → IsTrue (are_together (holds self.old) t l) →
+            hears self.new t l ≡ (if are_at talker listener t l then is_heard else hears self.old t l) }
+        ensures others { KeepsOthers self.old self.new talker.room }
+    {
+        let back = self.hears(listener, talker);
+        let from = usize::from(talker.seat);
+        let to = usize::from(listener.seat);
+        let word = word_on(from, to, is_heard, back);
+        self.on_triples(talker.room, &[word]).unwrap();
     }
 
     /// Exposes an invariant to a proof: every table represents some list of edits. Has no effect.

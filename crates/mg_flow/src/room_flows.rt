@@ -1,7 +1,8 @@
 ghost use Rattle.std.specs.Prelude.{◌≡◌, ℕ, ◌<◌, ◌∷◌, List, true, false, ◌↔◌, Any, IsTrue, IsFalse, IsErr, OnOk, OnErr};
 ghost use Rattle.mg_topology.specs.Mask.{seat_limit, has_seat};
 ghost use Rattle.mg_topology.specs.Triple.{Overlaps};
-ghost use Rattle.mg_topology.specs.Edits.{TopologyEdit, Enter, Leave, apply_all};
+ghost use Rattle.mg_topology.specs.Edits.{TopologyEdit, Enter, Leave};
+ghost use Rattle.mg_topology.specs.aids.Edits.{apply_all};
 ghost use Rattle.mg_topology.specs.aids.Topology.{holds, hears, StandsFor};
 ghost use Rattle.mg_flow.specs.aids.RoomFlows.{flows_to, is_blocked_for};
 
@@ -68,7 +69,7 @@ impl RoomFlows {
     pub(crate) fn hears(&self, talker: usize, listener: usize) -> bool
         ensures { result ≡ hears self.now.topology talker listener }
     {
-        self.topology.hears(listener, talker)
+        self.topology.hears(talker, listener)
     }
 
     /// Returns the talkers whose speech flows to the listener.

@@ -245,3 +245,10 @@ pub made_context_is : (a : Inside) (c room n : ℕ) (v : List ℕ) → HasTables
     (set a.rooms.items room (Some (record { number = c; room = room; members = v }))) ≡
     in_order (λ y. y.number) a.rooms.items ++ (record { number = c; room = room; members = n ∷ [] } ∷ [])
 made_context_is a c room n v kept free number is = grind (arith, made_is a)
+
+-- The entry of a room is empty if and only if no context is in the room.
+pub at_room_is : (a : Inside) (s : ℕ) (o : Option Context) → HasTables a → s < length a.rooms.items →
+    o ≡ get_or a.rooms.items s o → o ≡ find (λ x. x.room == s) ((registry_of a).contexts)
+at_room_is a s o kept lt at =
+    sym (find_spot (λ x. x.number) (λ x. x.room) a.next_context CONTEXTS a.rooms.items s kept.rooms ∙
+    ap entry_at (slice_get_read a.rooms.items (length a.rooms.items) s o refl lt at))

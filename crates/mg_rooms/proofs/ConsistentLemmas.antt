@@ -128,7 +128,7 @@ left_ok w c n h = record {
 
 -- ## Outcomes
 
-counted : (w : Registry) → IsConsistent w → Counted (members_at w) (λ p. count_by p w.terminations)
+pub counted : (w : Registry) → IsConsistent w → Counted (members_at w) (λ p. count_by p w.terminations)
 counted w h = record { same = h.agree.same; as_many = h.agree.as_many }
 
 pub start_sound : (limits : Limits) → limits.first_termination ≤ LAST_TERMINATION → AreValidLimits limits →
@@ -238,7 +238,7 @@ subtract_sound w after n d h a =
       last_context = h.last_context;
     })
 
-after_entering : (w after : Registry) (c n : ℕ) → AreValidLimits w.limits → HasEntered w after c n →
+pub after_entering : (w after : Registry) (c n : ℕ) → AreValidLimits w.limits → HasEntered w after c n →
     AreTerminations w.limits w.next_termination w.terminations → Agree (members_at after) w.terminations →
     w.limits.first_termination ≤ w.next_termination → w.next_termination ≤ LAST_TERMINATION + 1 → IsConsistent after
 after_entering w after c n valid gone terminations agree from last = record {

@@ -82,7 +82,7 @@ changed_room d c f xs y keeps few after =
 left_keeps : (n : ℕ) (x : Context) → Keeps x (with_members x (without n x.members))
 left_keeps n x = keeps_left x (without n x.members)
 
-context_entered : (w : Registry) (place : EntryPlace) (n : ℕ) (made : Option ℕ) (c : ℕ) →
+pub context_entered : (w : Registry) (place : EntryPlace) (n : ℕ) (made : Option ℕ) (c : ℕ) →
     (place.context == c) ≡ false → context_at (entered_at w place n made) c ≡ context_at w c
 context_entered w place n None c ne = find-change_other (λ x. x.number) place.context c
     (λ x. Some (record x { members = x.members ++ (n ∷ []) })) w.contexts (λ x e. refl) ne
@@ -93,7 +93,7 @@ context_left : (w : Registry) (d n c : ℕ) → (d == c) ≡ false → context_a
 context_left w d n c ne = find-change_other (λ x. x.number) d c (λ x. with_members x (without n x.members)) w.contexts
     (λ x _. keeps-number x (with_members x (without n x.members)) (left_keeps n x)) ne
 
-room_entered : (w : Registry) (place : EntryPlace) (n : ℕ) (made : Option ℕ) (c : ℕ) (x y : Context) →
+pub room_entered : (w : Registry) (place : EntryPlace) (n : ℕ) (made : Option ℕ) (c : ℕ) (x y : Context) →
     AreContexts w.limits w.next_context w.contexts → context_at w c ≡ Some x →
     context_at (entered_at w place n made) c ≡ Some y → y.room ≡ x.room
 room_entered w place n (Some room) c x y h found after =
@@ -114,7 +114,7 @@ room_left w d n c y h after = changed_room d c (λ x. with_members x (without n 
 
 -- If the termination n keeps its slot and its seat, each context keeps its room, and only n and the contexts c and d
 -- change, then `Lasts` and `LeavesOthers` hold.
-lasting : (w after : Registry) (n c d : ℕ)
+pub lasting : (w after : Registry) (n c d : ℕ)
     → ((m : ℕ) → (n == m) ≡ false → record_at after m ≡ record_at w m)
     → ((r s : Record) → record_at w n ≡ Some r → record_at after n ≡ Some s →
     (s.slot ≡ r.slot) × (s.context ≡ r.context → s.seat ≡ r.seat))

@@ -17,3 +17,5 @@ pub mod SoundLemmas
 pub mod RoomsLemmas
 pub mod Rows
 pub mod ConsistentLemmas
+pub mod PutLemmas
+pub mod RestoreLemmas

@@ -1,5 +1,5 @@
 -- Lookups in a consistent registry.
-use Rattle.mg_rooms.proofs.Common.{◌≡◌, ℕ, ◌<◌, ◌≤◌, ◌&&◌, Bool, true, false, List, [], ◌∷◌, length, Option, Some, None, refl, sym, ◌∙◌, ap, arith, inl, inr, ◌==◌, ◌↔◌, find, IsSome, IsTrue, ◌⊎◌, Ok, Err, nat_lt, nat_le, ok_or, count_by, list_any, cases_Bool, eqb-true, eq-eqb, Record, Context, CONTEXTS, MEMBERS, LAST_CONTEXT, NoContextLeft, new_slot, new_context, EntryPlace, ErrorNumber, Registry, record_at, context_at, members_at, free_seat, free_room, free_slot, IsTermination, IsContext, IsConsistent}
+use Rattle.mg_rooms.proofs.Common.{◌≡◌, ℕ, ◌<◌, ◌≤◌, ◌&&◌, Bool, true, false, List, [], ◌∷◌, length, get_or, Option, Some, None, refl, sym, ◌∙◌, ap, arith, inl, inr, ◌==◌, ◌↔◌, find, IsSome, IsTrue, ◌⊎◌, Ok, Err, nat_lt, nat_le, ok_or, count_by, list_any, cases_Bool, eqb-true, eq-eqb, Record, Context, CONTEXTS, MEMBERS, LAST_CONTEXT, NoContextLeft, new_slot, new_context, EntryPlace, ErrorNumber, Registry, record_at, context_at, members_at, free_seat, free_room, free_slot, IsTermination, IsContext, IsConsistent}
 use Rattle.std.proofs.lemmas.Bool.Decides.{nat_tests}
 use Rattle.std.proofs.lemmas.Bool.{and_parts, and_from, cases_lt}
 use Rattle.mg_words.specs.declared.limits.TheConstants.{LAST_TERMINATION}
@@ -7,9 +7,9 @@ use Rattle.mg_words.specs.declared.error_number.ErrorNumber.TheVariants.{Context
 use Rattle.mg_words.specs.ResultSteps.{◌>>=◌}
 use Rattle.mg_rooms.specs.Results.{passes}
 use Rattle.mg_rooms.specs.Outcome.{new_seat}
-use Rattle.mg_rooms.specs.Registry.{IsMember}
+use Rattle.mg_rooms.specs.aids.Sound.{IsMember}
 use Rattle.mg_rooms.proofs.OrderLemmas.{found_key}
-use Rattle.mg_rooms.proofs.CountLemmas.{all_counted, counted_any, count-cons, count-found, count-weaker, same_found, all-found}
+use Rattle.mg_rooms.proofs.CountLemmas.{all_counted, counted_any, find-at, count-cons, count-found, count-weaker, same_found, all-found}
 use Rattle.mg_rooms.proofs.OutcomeLemmas.{found_number}
 use Rattle.mg_rooms.proofs.ConsistentLemmas.{found_termination}
 use Rattle.mg_rooms.proofs.SeatLemmas.{seat_left}
@@ -39,6 +39,13 @@ same_room w c d x y h at_c at_d room =
 pub termination_within : (w : Registry) (n : ℕ) (r : Record) → IsConsistent w → record_at w n ≡ Some r →
     (r.number ≡ n) × IsTermination w.limits w.next_termination r
 termination_within w n r h found = (found_number w n r found, found_termination w n r h found)
+
+-- Looking up the number of a context finds the context.
+pub by_context : (w : Registry) (i : ℕ) (d : Context) → IsConsistent w → i < length w.contexts →
+    context_at w (get_or w.contexts i d).number ≡ Some (get_or w.contexts i d)
+by_context w i d h lt =
+    let c = (get_or w.contexts i d).number in
+    find-at (λ x. x.number == c) w.contexts i d lt (eq-eqb c c refl) (h.contexts.one_number c)
 
 pub context_within : (w : Registry) (c : ℕ) (x : Context) → IsConsistent w → context_at w c ≡ Some x →
     (x.number ≡ c) × IsContext w.limits w.next_context x

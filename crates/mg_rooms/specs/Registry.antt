@@ -1,5 +1,5 @@
 -- The terminations and contexts of a gateway (RFC 3525, section 6).
-use Rattle.std.specs.Prelude.{◌≡◌, ℕ, Bool, not, ◌&&◌, List, [], Option, Some, ◌==◌}
+use Rattle.std.specs.Prelude.{ℕ, Bool, not, ◌&&◌, List, [], Option, ◌==◌}
 use Rattle.std.specs.Prelude.{find}
 use Rattle.std.specs.List.{list_any, range_with_len}
 use Rattle.std.specs.Option.{option_map_or}
@@ -63,7 +63,3 @@ abbrev pub free_seat : Registry → ℕ → Option ℕ
 free_seat w c =
     least_below member_limit (λ seat. not
     (list_any (λ r. (r.context == c) && (r.seat == seat)) w.terminations))
-
--- The termination n is in the context c.
-abbrev pub IsMember : Registry → ℕ → ℕ → Type 0
-IsMember w c n = (r : Record) × (record_at w n ≡ Some r) × (r.context ≡ c)

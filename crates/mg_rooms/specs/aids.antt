@@ -7,3 +7,4 @@ pub mod Tables
 pub mod Lasting
 pub mod Member
 pub mod Gives
+pub mod Restoring

@@ -76,7 +76,7 @@ impl Tables {
     }
 
     /// Adds a termination to an existing context.
-    fn join(&mut self, context: u32, number: u32)
+    pub(crate) fn join(&mut self, context: u32, number: u32)
         requires room { length (members_at self.old context) < MEMBERS }
         ensures value { self.new ≡ joined self.old context number }
     {

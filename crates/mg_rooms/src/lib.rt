@@ -16,6 +16,9 @@
 //! assert_eq!(rt; rooms.subtract(Target::Null, made.number), Err(ErrorNumber::NotInContext));
 //! ```
 //!
+//! [`Rooms::skip_to`] and [`Rooms::restore`] fill new rooms with the terminations and contexts that a gateway had before
+//! it was restarted. Their numbers, slots, seats and rooms are kept.
+//!
 //! [`Rooms::new`] allocates all memory; no other call allocates.
 //!
 //! In contracts, a [`Rooms`] appears as a registry: the terminations and contexts in numerical order
@@ -35,9 +38,11 @@ mod media_setting;
 mod member;
 mod members;
 mod moved;
+mod order;
 mod outcomes;
 mod place;
 mod record;
+mod restoring;
 mod rooms;
 mod settings;
 mod tables;

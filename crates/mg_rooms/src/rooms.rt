@@ -1,10 +1,11 @@
-ghost use Rattle.std.specs.Prelude.{◌≡◌, ◌<◌, ◌≤◌, nat_lt, if◌then◌else◌, Some, None, IfOk, IfSome, IfNone, OnErr, length, option_map};
+ghost use Rattle.std.specs.Prelude.{◌≡◌, ◌<◌, ◌≤◌, nat_lt, if◌then◌else◌, Some, None, true, IfOk, IfSome, IfNone, OnErr, length, map, count_by, option_map};
 ghost use Rattle.mg_rooms.specs.Limits.{slot_port, AreValidLimits};
 ghost use Rattle.mg_rooms.specs.Registry.{start_of, record_at, context_at, members_at, holder_of};
 ghost use Rattle.mg_rooms.specs.aids.Lasting.{Lasts, LeavesOthers};
 ghost use Rattle.mg_rooms.specs.aids.Member.{ExistsAs};
 ghost use Rattle.mg_rooms.specs.Outcome.{member, add, modify, move_to, subtract};
 ghost use Rattle.mg_rooms.specs.aids.Gives.{Gives};
+ghost use Rattle.mg_rooms.specs.aids.Restoring.{may_restore, may_skip, restored, skipped};
 
 use crate::limits::Limits;
 use crate::member::Member;
@@ -13,7 +14,8 @@ use crate::record::Record;
 use crate::settings::Settings;
 use crate::tables::Tables;
 use crate::target::Target;
-use mg_words::{ErrorNumber, MEMBERS};
+use arrayvec::ArrayVec;
+use mg_words::{CONTEXTS, ErrorNumber, MEMBERS};
 use std::alloc::{AllocError, Global};
 use std::marker::Model;
 
@@ -85,6 +87,34 @@ impl Rooms {
         ensures value { result ≡ option_map (λ x. x.room) (context_at self.now context) }
     {
         self.tables.room(context)
+    }
+
+    /// Returns the numbers of all contexts, in ascending order.
+    pub fn contexts(&self) -> ArrayVec<u32, CONTEXTS>
+        ensures value { result.items ≡ map (λ x. x.number) self.now.contexts }
+    {
+        self.tables.contexts()
+    }
+
+    /// Returns how many terminations have a number below this one.
+    pub fn rank(&self, number: u32) -> usize
+        ensures value { result ≡ count_by (λ r. nat_lt r.number number) self.now.terminations }
+    {
+        self.tables.rank(number)
+    }
+
+    /// Returns the number that the next termination gets. It is above the last number if no number is left.
+    pub fn next_termination(&self) -> u64
+        ensures value { result ≡ self.now.next_termination }
+    {
+        self.tables.next_termination
+    }
+
+    /// Returns the number that the next context gets. It is above the last number if no number is left.
+    pub fn next_context(&self) -> u64
+        ensures value { result ≡ self.now.next_context }
+    {
+        self.tables.next_context
     }
 
     /// Returns the UDP port of a slot, or `None` if there is no such slot.
@@ -205,5 +235,34 @@ impl Rooms {
         let gone = self.tables.member_of(old);
         self.tables.end(gone);
         Ok(gone)
+    }
+
+    /// Raises the numbers of the next termination and the next context.
+    ///
+    /// Returns false, and changes nothing, if either is lower than now or higher than the last number plus one.
+    pub fn skip_to(&mut self, termination: u64, context: u64) -> bool
+        ensures value { result ≡ may_skip self.old termination context }
+        ensures outcome { self.new ≡ (if result then skipped self.old termination context else self.old) }
+        ensures consistent { IsConsistent self.new }
+    {
+        self.tables.skip_to(termination, context)
+    }
+
+    /// Puts back a termination that the gateway had before it was restarted.
+    ///
+    /// The termination becomes the last member of its context. If the context doesn't exist, it is created in this room.
+    /// Returns false, and changes nothing, if the record or the room is not within the limits, if another termination
+    /// holds the number, the slot or the seat, if the context is full or in another room, or if another context holds
+    /// the room. The numbers must be below the next ones ([`Rooms::skip_to`]).
+    pub fn restore(&mut self, termination: &Record, room: u8) -> bool
+        ensures value { result ≡ may_restore self.old termination.now room }
+        ensures outcome { self.new ≡ (if result then restored self.old termination.now room else self.old) }
+        ensures consistent { IsConsistent self.new }
+        ensures member { result ≡ true → ExistsAs self.new termination.now.number
+            (record { «record» = termination.now; room = room }) }
+        ensures lasts { Lasts self.old self.new }
+        ensures others { LeavesOthers self.old self.new termination.now.number termination.now.context termination.now.context }
+    {
+        self.tables.restore(termination, room)
     }
 }

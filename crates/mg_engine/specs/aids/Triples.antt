@@ -10,6 +10,8 @@ use Rattle.mg_engine.specs.declared.topology_triple.TopologyTriple.{TopologyTrip
 use Rattle.mg_engine.specs.Flow.{has}
 use Rattle.mg_engine.specs.aids.Place.{IsOnPlace}
 use Rattle.mg_engine.specs.Triples.{matched}
+use Rattle.mg_words.specs.declared.association.Association.TheVariants.{Isolate}
+use Rattle.mg_engine.specs.declared.triple_term.TripleTerm.TheVariants.{Barred}
 
 -- The context exists and has this room.
 abbrev pub IsRoomOf : Registry → ℕ → ℕ → Type 0
@@ -39,3 +41,7 @@ AreMatched w c members [] (y ∷ ys) = ⊥
 AreMatched w c members (x ∷ xs) [] = ⊥
 AreMatched w c members (x ∷ xs) (y ∷ ys) =
     IsMatched w c members x y × AreMatched w c members xs ys
+
+-- A triple that causes its edit to fail.
+abbrev pub barred_triple : TopologyTriple
+barred_triple = record { first = Barred; second = Barred; association = Isolate }

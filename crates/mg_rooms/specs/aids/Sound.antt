@@ -6,8 +6,11 @@ use Rattle.std.specs.List.{list_any, count_by}
 use Rattle.mg_rooms.specs.declared.record.Record.{Record}
 use Rattle.mg_rooms.specs.declared.context.Context.{Context}
 use Rattle.mg_rooms.specs.Registry.{Registry, record_at, context_at, holder_of, members_at}
-use Rattle.mg_rooms.specs.Registry.{IsMember}
 use Rattle.mg_rooms.specs.Consistent.{IsConsistent, IsTermination, IsContext}
+
+-- The termination n is in the context c.
+abbrev pub IsMember : Registry → ℕ → ℕ → Type 0
+IsMember w c n = (r : Record) × (record_at w n ≡ Some r) × (r.context ≡ c)
 
 pub record IsSound (w : Registry) : Type 0 where
   pub consistent : IsConsistent w

@@ -1,6 +1,6 @@
 use Rattle.std.proofs.Common.{◌≡◌, ◌⊎◌, ◌<◌, drop}
 use Rattle.mg_words.specs.Leads.{Leads}
-use Rattle.mg_reply.specs.Reply.{IsWhole}
+use Rattle.mg_reply.specs.aids.Whole.{IsWhole}
 use Rattle.mg_commands.specs.aids.ByActions.{with_actions}
 use Rattle.mg_commands.specs.aids.Runs.{Base, IsTransaction, transaction_kept}
 use Rattle.mg_commands.proofs.transactions.try_actions.Given as goal

@@ -1,6 +1,6 @@
 use Rattle.std.proofs.Common.{◌<◌, length, arith}
 use Rattle.std.proofs.lemmas.Result.{on_ok_weaker}
-use Rattle.mg_flow.specs.Edits.{apply_in_room}
+use Rattle.mg_flow.specs.aids.Edits.{apply_in_room}
 use Rattle.mg_flow.proofs.HearsLemmas.{triples_hear}
 use Rattle.mg_flow.proofs.TableLemmas.{triples_stand, IsFlowTable-tried}
 use Rattle.mg_flow.proofs.flow_table.FlowTable.on_triples.Goals as goal

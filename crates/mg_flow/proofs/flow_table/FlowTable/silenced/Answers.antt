@@ -1,6 +1,6 @@
 use Rattle.std.proofs.Common.{◌≡◌, ℕ, true, ap, ◌∙◌}
 use Rattle.mg_topology.specs.Mask.{has_seat}
-use Rattle.mg_flow.specs.Place.{sibling_place}
+use Rattle.mg_flow.specs.aids.Place.{sibling_place}
 use Rattle.mg_flow.specs.aids.Table.{holds, is_silenced}
 use Rattle.mg_flow.proofs.TableLemmas.{IsRead, held_within, is_silenced-read, is_silenced-stands}
 use Rattle.mg_flow.proofs.flow_table.FlowTable.silenced.Goals as goal

@@ -351,8 +351,8 @@ itself : (some : List ℕ) (w : World) → AgreeOutside some w w
 itself some w = record { gateway = record { config = refl; rooms = refl; edits = refl; media = refl }; replies = refl }
 
 pub unheard_in_histories : UnheardChangesNothing → UnheardInHistories
-unheard_in_histories lists some port config xs s t v w one other only (run, stands) (runs, too) =
-    (lists some port (start_of config) (start_of config) v w xs s t (itself some (start_of config)) only run runs).1
+unheard_in_histories lists some port base xs s t v w one other only (run, stands) (runs, too) =
+    (lists some port base base v w xs s t (itself some base) only run runs).1
 
 pub unheard_in_scripts : UnheardChangesNothing → UnheardInScripts
 unheard_in_scripts lists some port config xs rest others first second one other counts more old new was now a b only is

@@ -21,7 +21,7 @@ use Rattle.mg_core.specs.Answer.{answer_head, answered, has_requests, if_asked, 
 use Rattle.mg_core.specs.aids.Answers.{unless_kept}
 use Rattle.mg_core.specs.Counting.{EventsAreCounted, is_control, is_media, is_tick}
 use Rattle.mg_core.specs.Step.{Sent, Run}
-use Rattle.mg_core.specs.World.{World, Tally, one_more_at, result_place, start_of, with_control, with_taken, with_tick}
+use Rattle.mg_core.specs.World.{World, Tally, one_more_at, result_place, with_control, with_taken, with_tick}
 
 -- ## A control datagram changes no other count
 
@@ -172,11 +172,6 @@ counted w last (Tick ∷ events) sent few (first, others, next, (reported, makes
 
 pub events_are_counted : EventsAreCounted
 unfolding HasCounters
-events_are_counted config events sent last run =
-    let h = counted (start_of config) last events sent refl run in
-    record {
-      control = omega (arith, h.control);
-      media = omega (arith, h.media);
-      ticks = omega (arith, h.ticks);
-      results = omega (arith, h.results);
-    }
+events_are_counted base events sent last few run =
+    let h = counted base last events sent few run in
+    record { control = h.control; media = h.media; ticks = h.ticks; results = h.results }

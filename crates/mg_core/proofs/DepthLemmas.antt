@@ -44,7 +44,7 @@ use Rattle.mg_commands.specs.Transaction.{replied}
 use Rattle.mg_commands.proofs.KeepLemmas.{request_keeps}
 use Rattle.mg_core.specs.declared.event.Event.{Event}
 use Rattle.mg_core.specs.declared.event.Event.TheVariants.{Control, Media, Tick}
-use Rattle.mg_core.specs.Step.{Run, Sent, Step}
+use Rattle.mg_core.specs.Step.{Sent, Step}
 use Rattle.mg_core.specs.World.{World, with_control}
 use Rattle.mg_core.proofs.ConsistentLemmas.{answer_keeps}
 use Rattle.mg_engine.specs.Steps.{play_after}
@@ -139,6 +139,27 @@ Paired [] [] = Unit {0}
 Paired (s ∷ ss) (r ∷ rs) = (s.number ≡ r.number) × (depth_of s.play ≡ r.depth) × Paired ss rs
 Paired [] (r ∷ rs) = ⊥
 Paired (s ∷ ss) [] = ⊥
+
+pub paired : (ss : List TerminationMedia) (rs : List Record) → map (λ s. s.number) ss ≡ map (λ r. r.number) rs →
+    map (λ s. depth_of s.play) ss ≡ map (λ r. r.depth) rs → Paired ss rs
+paired [] [] h k = tt
+paired [] (r ∷ rs) h k = absurd (cc h)
+paired (s ∷ ss) [] h k = absurd (cc h)
+paired (s ∷ ss) (r ∷ rs) h k = (cc h, cc k, paired ss rs (cc h) (cc k))
+
+pub same_numbers : (ss : List TerminationMedia) (rs : List Record) → Paired ss rs →
+    map (λ s. s.number) ss ≡ map (λ r. r.number) rs
+same_numbers [] [] h = refl
+same_numbers [] (r ∷ rs) h = absurd h
+same_numbers (s ∷ ss) [] h = absurd h
+same_numbers (s ∷ ss) (r ∷ rs) h = λ i. h.0 i ∷ same_numbers ss rs h.2 i
+
+pub same_depths : (ss : List TerminationMedia) (rs : List Record) → Paired ss rs →
+    map (λ s. depth_of s.play) ss ≡ map (λ r. r.depth) rs
+same_depths [] [] h = refl
+same_depths [] (r ∷ rs) h = absurd h
+same_depths (s ∷ ss) [] h = absurd h
+same_depths (s ∷ ss) (r ∷ rs) h = λ i. h.1 i ∷ same_depths ss rs h.2 i
 
 pushed : (ss : List TerminationMedia) (rs : List Record) (s : TerminationMedia) (r : Record) → Paired ss rs →
     s.number ≡ r.number → depth_of s.play ≡ r.depth → Paired (ss ++ s ∷ []) (rs ++ r ∷ [])
@@ -244,20 +265,9 @@ placed_pair n p (s ∷ ss) [] deep h = absurd h
 placed_pair n p (s ∷ ss) (r ∷ rs) deep h =
     placed_one p s r ss (with_frame n p ss) rs (eqb s.number n) deep.0 h (placed_pair n p ss rs deep.1 h.2)
 
-pub same_depths : (ss ts : List TerminationMedia) (rs : List Record) → Paired ss rs → Paired ts rs →
-    map (λ s. depth_of s.play) ss ≡ map (λ s. depth_of s.play) ts
-same_depths [] [] [] h k = refl
-same_depths [] [] (r ∷ rs) h k = absurd h
-same_depths [] (t ∷ ts) [] h k = absurd k
-same_depths [] (t ∷ ts) (r ∷ rs) h k = absurd h
-same_depths (s ∷ ss) [] [] h k = absurd h
-same_depths (s ∷ ss) [] (r ∷ rs) h k = absurd k
-same_depths (s ∷ ss) (t ∷ ts) [] h k = absurd h
-same_depths (s ∷ ss) (t ∷ ts) (r ∷ rs) h k = λ i. (h.1 ∙ sym k.1) i ∷ same_depths ss ts rs h.2 k.2 i
-
 -- ## Records after a command
 
-bind_is : {A B E : Type 0} (r : Result A E) (f : A → Result B E) (y : B) → (r >>= f) ≡ Ok y →
+pub bind_is : {A B E : Type 0} (r : Result A E) (f : A → Result B E) (y : B) → (r >>= f) ≡ Ok y →
     (x : A) × (r ≡ Ok x) × (f x ≡ Ok y)
 bind_is (Ok x) f y e = (x, refl, e)
 bind_is (Err z) f y e = absurd (cc e)
@@ -468,7 +478,7 @@ requests_keep = request_keeps IsPaired add_keeps modify_keeps move_keeps subtrac
 
 module _ (consistent : (w : World) (event : Event) (sent : List Sent) (next : World) → IsConsistent w.gateway.rooms →
     Step w event sent next → IsConsistent next.gateway.rooms) where
-  step_keeps : (w : World) (event : Event) (sent : List Sent) (next : World) → IsConsistent w.gateway.rooms →
+  pub step_keeps : (w : World) (event : Event) (sent : List Sent) (next : World) → IsConsistent w.gateway.rooms →
       IsPaired w.gateway → Step w event sent next → IsPaired next.gateway
   step_keeps w (Control source bytes) sent next sound h (answer, (reading, is, represents), reported) =
       subst (λ (v : World). IsPaired v.gateway) (ap (λ (p : Option (List ℕ) × World). p.1) represents)
@@ -478,10 +488,3 @@ module _ (consistent : (w : World) (event : Event) (sent : List Sent) (next : Wo
       (arrivals_keep w.gateway g port source.address bytes taken sound h takes)
   step_keeps w Tick sent next sound h (reported, is) =
       subst (λ (v : World). IsPaired v.gateway) (sym is) (tick_keeps w.gateway h)
-
-  pub paired_after : (w last : World) (events : List Event) (sent : List Sent) → IsConsistent w.gateway.rooms →
-      IsPaired w.gateway → Run w events sent last → IsPaired last.gateway
-  paired_after w last [] sent sound h (none, is) = subst (λ (v : World). IsPaired v.gateway) (sym is) h
-  paired_after w last (event ∷ events) sent sound h (first, others, next, step, run, are) =
-      paired_after next last events others (consistent w event first next sound step)
-      (step_keeps w event first next sound h step) run

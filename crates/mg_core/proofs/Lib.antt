@@ -23,6 +23,7 @@ pub mod ReceivedLemmas
 pub mod JournalLemmas
 pub mod CounterLemmas
 pub mod RetransmissionLemmas
+pub mod BaseLemmas
 pub mod ReadBackLemmas
 pub mod RecordingLemmas
 pub mod SkipLemmas

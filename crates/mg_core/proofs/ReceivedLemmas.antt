@@ -1,7 +1,10 @@
 -- Worlds that differ only in what was received.
-use Rattle.std.proofs.Common.{◌≡◌, ℕ, ℤ, ◌+◌, eqb, ◌||◌, eq-eqb, Bool, true, false, cond, List, [], ◌∷◌, ◌++◌, map, Option, Some, None, Ok, Err, refl, sym, ap, subst, ◌∙◌}
+use Rattle.std.proofs.Common.{arith, ◌≡◌, ◌<◌, ◌≤◌, ℕ, ℤ, ◌+◌, eqb, ◌||◌, eq-eqb, Bool, true, false, cond, List, [], ◌∷◌, ◌++◌, map, Option, Some, None, Ok, Err, refl, sym, ap, subst, ◌∙◌}
 use Rattle.std.specs.Prelude.{option_to_list}
-use Rattle.std.proofs.lemmas.Bool.{true≢false}
+use Rattle.std.proofs.lemmas.Bool.{true≢false, ltb-true}
+use Rattle.std.specs.Prelude.{nat_lt, not, length}
+use Rattle.mg_words.specs.Limits.{message_limit}
+use Rattle.mg_text.specs.MessageReading.{Read, TooMany, OtherVersion, NoMessage}
 use Rattle.mg_rtp.specs.declared.header.Header.{Header}
 use Rattle.mg_rtp.specs.Reading.{Reading}
 use Rattle.mg_rooms.specs.declared.record.Record.{Record}
@@ -17,23 +20,18 @@ use Rattle.mg_engine.specs.Gateway.{Gateway, TerminationMedia, media_of}
 use Rattle.mg_core.specs.declared.event.Event.{Event}
 use Rattle.mg_core.specs.declared.event.Event.TheVariants.{Control, Media, Tick}
 use Rattle.mg_core.specs.Apart.{AgreeOutside}
-use Rattle.mg_core.specs.ExceptReceived.{AgreeExceptReceived, RtpChangesSpeechOnly, RtpChangesSpeechOnlyInHistories, without_rtp}
-use Rattle.mg_core.specs.Step.{Sent, Step}
-use Rattle.mg_core.specs.World.{Tally, World, start_of, with_control, with_taken}
+use Rattle.mg_core.specs.ExceptReceived.{AgreeExceptReceived, RtpChangesSpeechOnly, RtpChangesSpeechOnlyInHistories, lasting}
+use Rattle.mg_core.specs.Step.{Sent, Step, Run}
+use Rattle.mg_core.specs.World.{Tally, World, with_control, with_taken}
 use Rattle.mg_core.proofs.ApartLemmas.{SameEventKeepsAgreement}
 use Rattle.mg_core.proofs.CountingLemmas.{answer_tally}
-use Rattle.mg_core.proofs.DepthLemmas.{Paired, paired_after, same_depths}
-use Rattle.mg_core.specs.Headline.{IsStart}
-use Rattle.mg_engine.specs.declared.config.Config.{Config}
+use Rattle.mg_core.specs.Base.{BasesStayBases}
 use Rattle.mg_rooms.specs.Consistent.{IsConsistent}
 use Rattle.mg_rooms.specs.Registry.{Registry}
 
 abbrev pub ConsistentSteps : Type 0
 ConsistentSteps = (w : World) (event : Event) (sent : List Sent) (next : World) → IsConsistent w.gateway.rooms →
     Step w event sent next → IsConsistent next.gateway.rooms
-
-abbrev pub rooms_at_start : Config → Registry
-rooms_at_start config = (start_of config).gateway.rooms
 
 -- ## Media without received packets
 
@@ -108,15 +106,14 @@ outside_all a b h = record {
   replies = h.replies;
 }
 
-except_received : (some : List ℕ) (a b : World) → AgreeOutside some a b → a.tally.control ≡ b.tally.control →
-    a.tally.ticks ≡ b.tally.ticks → AgreeExceptReceived a b
-except_received some a b h control ticks = record {
+except_received : (some : List ℕ) (a b : World) → AgreeOutside some a b → a.tally.ticks ≡ b.tally.ticks →
+    AgreeExceptReceived a b
+except_received some a b h ticks = record {
   config = h.gateway.config;
   rooms = h.gateway.rooms;
   edits = h.gateway.edits;
   media = same_erased some a.gateway.media b.gateway.media h.gateway.media;
   replies = h.replies;
-  control = control;
   ticks = ticks;
 }
 
@@ -169,14 +166,38 @@ media_agrees a b x port source bytes s h (taken, (g, (reading, reads, represents
       edits = same.edits ∙ h.edits;
       media = same.media ∙ h.media;
       replies = h.replies;
-      control = h.control;
       ticks = h.ticks;
     } in
     subst (λ (w : World). AgreeExceptReceived w b) (sym is) agree
 
 -- ## Control datagrams and ticks
 
-control_tally : (a x : World) (source : Peer) (bytes : List ℕ) (s : List Sent) → Step a (Control source bytes) s x →
+too_long : (n : ℕ) → message_limit < n → n ≤ message_limit → ⊥
+too_long n long short = omega (arith, long, short)
+
+-- An oversized datagram is only counted.
+only_counted : (a x : World) (source : Peer) (bytes : List ℕ) (s : List Sent) → message_limit < length bytes →
+    Step a (Control source bytes) s x → x ≡ with_control a
+only_counted a x source bytes s long (answer, (Read m, reads, is), sent) = absurd (too_long (length bytes) long reads.tree.short)
+only_counted a x source bytes s long (answer, (TooMany, reads, is), sent) =
+    ap (λ (p : Option (List ℕ) × World). p.1) (sym is)
+only_counted a x source bytes s long (answer, (OtherVersion n, reads, is), sent) = absurd (too_long (length bytes) long reads.short)
+only_counted a x source bytes s long (answer, (NoMessage, reads, is), sent) = absurd (too_long (length bytes) long reads.short)
+
+pub oversized_agrees : (a b x : World) (source : Peer) (bytes : List ℕ) (s : List Sent) → message_limit < length bytes →
+    AgreeExceptReceived a b → Step a (Control source bytes) s x → AgreeExceptReceived x b
+oversized_agrees a b x source bytes s long h step =
+    let counted : AgreeExceptReceived (with_control a) b = record {
+      config = h.config;
+      rooms = h.rooms;
+      edits = h.edits;
+      media = h.media;
+      replies = h.replies;
+      ticks = h.ticks;
+    } in
+    subst (λ (w : World). AgreeExceptReceived w b) (sym (only_counted a x source bytes s long step)) counted
+
+pub control_tally : (a x : World) (source : Peer) (bytes : List ℕ) (s : List Sent) → Step a (Control source bytes) s x →
     x.tally ≡ (with_control a).tally
 control_tally a x source bytes s (answer, (reading, reads, represents), sent) =
     ap (λ (p : Option (List ℕ) × World). p.1.tally) (sym represents) ∙ answer_tally bytes reading (with_control a)
@@ -189,7 +210,6 @@ module _ (event : SameEventKeepsAgreement) where
       let first = control_tally a x source bytes s step in
       let second = control_tally b y source bytes t too in
       except_received some x y (event some a b x y (Control source bytes) s t (outside_all a b h) step too)
-      (ap (λ (t : Tally). t.control) first ∙ ap (λ n. n + 1) h.control ∙ sym (ap (λ (t : Tally). t.control) second))
       (ap (λ (t : Tally). t.ticks) first ∙ h.ticks ∙ sym (ap (λ (t : Tally). t.ticks) second))
 
   pub tick_agrees : (a b x y : World) (s t : List Sent) → AgreeExceptReceived a b → Step a Tick s x → Step b Tick t y →
@@ -197,20 +217,34 @@ module _ (event : SameEventKeepsAgreement) where
   tick_agrees a b x y s t h step too =
       let some = numbers a.gateway.media in
       except_received some x y (event some a b x y Tick s t (outside_all a b h) step too)
-      (ap (λ (w : World). w.tally.control) step.1 ∙ h.control ∙ sym (ap (λ (w : World). w.tally.control) too.1))
       (ap (λ (w : World). w.tally.ticks) step.1 ∙ ap (λ n. n + 1) h.ticks ∙
       sym (ap (λ (w : World). w.tally.ticks) too.1))
 
   -- ## Lists of events
 
+  abbrev AgreeAfter : (a b x y : World) (events : List Event) → Type 0
+  AgreeAfter a b x y events = (s t : List Sent) → AgreeExceptReceived a b → Run a events s x →
+      Run b (lasting events) t y → AgreeExceptReceived x y
+
+  -- A control datagram, which only the first world receives if it is oversized.
+  over_control : (a b x y : World) (source : Peer) (bytes : List ℕ) (events : List Event) →
+      ((v w : World) → AgreeAfter v w x y events) → (is_big : Bool) → nat_lt message_limit (length bytes) ≡ is_big →
+      (s t : List Sent) → AgreeExceptReceived a b → Run a (Control source bytes ∷ events) s x →
+      Run b (cond (not is_big) (Control source bytes ∷ lasting events) (lasting events)) t y → AgreeExceptReceived x y
+  over_control a b x y source bytes events more true big s t h (first, others, next, step, run, is) runs =
+      more next b others t (oversized_agrees a b next source bytes first (ltb-true message_limit (length bytes) big) h step)
+      run runs
+  over_control a b x y source bytes events more false big s t h (first, others, next, step, run, is)
+      (second, rest, also, too, runs, its) =
+      more next also others rest (control_agrees a b next also source bytes first second h step too) run runs
+
   pub rtp_changes_speech_only : RtpChangesSpeechOnly
   rtp_changes_speech_only a b x y [] s t h (sent, is) (also, its) =
       subst (λ (w : World). AgreeExceptReceived w y) (sym is)
       (subst (λ (w : World). AgreeExceptReceived a w) (sym its) h)
-  rtp_changes_speech_only a b x y (Control source bytes ∷ events) s t h (first, others, next, step, run, is)
-      (second, rest, also, too, runs, its) =
-      rtp_changes_speech_only next also x y events others rest
-      (control_agrees a b next also source bytes first second h step too) run runs
+  rtp_changes_speech_only a b x y (Control source bytes ∷ events) s t h run runs =
+      over_control a b x y source bytes events (λ v w. rtp_changes_speech_only v w x y events)
+      (nat_lt message_limit (length bytes)) refl s t h run runs
   rtp_changes_speech_only a b x y (Media port source bytes ∷ events) s t h (first, others, next, step, run, is) runs =
       rtp_changes_speech_only next b x y events others t (media_agrees a b next port source bytes first h step) run runs
   rtp_changes_speech_only a b x y (Tick ∷ events) s t h (first, others, next, step, run, is)
@@ -225,19 +259,16 @@ agrees_itself w = record {
   edits = refl;
   media = refl;
   replies = refl;
-  control = refl;
   ticks = refl;
 }
 
 -- From worlds to histories. The play lists also have the same depths, because each depth equals the depth in its
 -- termination's record.
-pub in_histories : RtpChangesSpeechOnly → ConsistentSteps → ((config : Config) → IsStart config →
-    IsConsistent (rooms_at_start config)) → RtpChangesSpeechOnlyInHistories
-in_histories worlds consistent starts config events s t v w one other start (run, stands) (runs, too) =
-    let agree = worlds (start_of config) (start_of config) v w events s t (agrees_itself (start_of config)) run runs in
-    let first = paired_after consistent (start_of config) v events s (starts config start) tt run in
-    let second = paired_after consistent (start_of config) w (without_rtp events) t (starts config start) tt runs in (
+pub in_histories : RtpChangesSpeechOnly → BasesStayBases → RtpChangesSpeechOnlyInHistories
+in_histories worlds stay a b events s t v w one other first second same (run, stands) (runs, too) =
+    let agree = worlds a b v w events s t same run runs in
+    let one = (stay a v events s first run).0 in
+    let other = (stay b w (lasting events) t second runs).0 in (
       agree,
-      same_depths v.gateway.media w.gateway.media w.gateway.rooms.terminations
-          (subst (λ (z : Registry). Paired v.gateway.media z.terminations) agree.rooms first) second,
+      one.depths ∙ ap (λ (z : Registry). map (λ r. r.depth) z.terminations) agree.rooms ∙ sym other.depths,
     )

@@ -3,7 +3,6 @@ use Rattle.std.proofs.Common.{◌≡◌, ℕ, zero, suc, ◌+◌, ◌≤◌, Boo
 use Rattle.std.proofs.lemmas.List.{append-nil, replicate-append-replicate}
 use Rattle.std.specs.List.{list_any}
 use Rattle.std.specs.Option.{option_map}
-use Rattle.mg_engine.specs.declared.config.Config.{Config}
 use Rattle.mg_words.specs.OptionSteps.{◌>>=◌}
 use Rattle.mg_core.specs.declared.event.Event.{Event}
 use Rattle.mg_core.specs.declared.event.Event.TheVariants.{Tick}
@@ -80,34 +79,34 @@ events_in_ticks zero = refl
 events_in_ticks (suc n) = ap (λ (l : List Event). Tick ∷ l) (events_in_ticks n)
 
 -- The state is that of a gateway at which these events arrived.
-abbrev HasRunEvents : Config → CoreState → List Event → Type 0
-HasRunEvents config state events = (sent : List Sent) × (w : World) × HasHistory config events sent w state
+abbrev HasRunEvents : World → CoreState → List Event → Type 0
+HasRunEvents base state events = (sent : List Sent) × (w : World) × HasHistory base events sent w state
 
-run_event : (config : Config) (old new : CoreState) (event : Event) (sent : List Sent) (notes : List Note) →
-    ExtendsHistory old new event sent → HasRun config notes old → HasRun config (notes ++ Happened event ∷ []) new
-run_event config old new event sent notes extends (before, w, history) =
-    let (next, after) = extends config (events_in notes) before w history in
-    subst (HasRunEvents config new) (sym (events_in_both notes (Happened event ∷ [])))
+run_event : (base : World) (old new : CoreState) (event : Event) (sent : List Sent) (notes : List Note) →
+    ExtendsHistory old new event sent → HasRun base notes old → HasRun base (notes ++ Happened event ∷ []) new
+run_event base old new event sent notes extends (before, w, history) =
+    let (next, after) = extends base (events_in notes) before w history in
+    subst (HasRunEvents base new) (sym (events_in_both notes (Happened event ∷ [])))
     (before ++ sent, next, after)
 
-run_ticks : (config : Config) (old new : CoreState) (n : ℕ) (notes : List Note) → ExtendsByTicks old new n →
-    HasRun config notes old → HasRun config (notes ++ ticks_of n) new
-run_ticks config old new n notes extends (before, w, history) =
-    let (sent, next, after) = extends config (events_in notes) before w history in
-    subst (HasRunEvents config new)
+run_ticks : (base : World) (old new : CoreState) (n : ℕ) (notes : List Note) → ExtendsByTicks old new n →
+    HasRun base notes old → HasRun base (notes ++ ticks_of n) new
+run_ticks base old new n notes extends (before, w, history) =
+    let (sent, next, after) = extends base (events_in notes) before w history in
+    subst (HasRunEvents base new)
     (sym (events_in_both notes (ticks_of n) ∙ ap (λ (l : List Event). events_in notes ++ l) (events_in_ticks n)))
     (before ++ sent, next, after)
 
-run_comment : (config : Config) (state : CoreState) (line : List ℕ) (notes : List Note) → HasRun config notes state →
-    HasRun config (notes ++ Comment line ∷ []) state
-run_comment config state line notes run =
-    subst (HasRunEvents config state) (sym (events_in_both notes (Comment line ∷ []) ∙ append-nil (events_in notes))) run
+run_comment : (base : World) (state : CoreState) (line : List ℕ) (notes : List Note) → HasRun base notes state →
+    HasRun base (notes ++ Comment line ∷ []) state
+run_comment base state line notes run =
+    subst (HasRunEvents base state) (sym (events_in_both notes (Comment line ∷ []) ∙ append-nil (events_in notes))) run
 
 -- ## A follower and pending ticks
 
-module _ (config : Config) where
+module _ (base : World) where
   pub up_to_date : (state : CoreState) (n : ℕ) (Follows : List Note → Type 0) (notes : List Note) → n ≡ 0 →
-      HasRun config notes state → Follows notes → KeepsUp config state n Follows notes
+      HasRun base notes state → Follows notes → KeepsUp base state n Follows notes
   up_to_date state n Follows notes none run follows = record {
     past = notes;
     parts = sym (append-nil notes) ∙ ap (λ (k : ℕ). notes ++ ticks_of k) (sym none);
@@ -116,59 +115,59 @@ module _ (config : Config) where
   }
 
   pub caught_up : (state : CoreState) (Follows : List Note → Type 0) (notes : List Note) →
-      KeepsUp config state 0 Follows notes → HasRun config notes state × Follows notes
+      KeepsUp base state 0 Follows notes → HasRun base notes state × Follows notes
   caught_up state Follows notes h =
       let same = sym (h.parts ∙ append-nil h.past) in
-      (subst (λ (l : List Note). HasRun config l state) same h.run, subst Follows same h.follows)
+      (subst (λ (l : List Note). HasRun base l state) same h.run, subst Follows same h.follows)
 
   pub ticks_added : (old new : CoreState) (n m k : ℕ) (Follows : List Note → Type 0) → new ≡ old → m ≡ n + k →
-      Adds (KeepsUp config old n Follows) (KeepsUp config new m Follows) (ticks_of k)
+      Adds (KeepsUp base old n Follows) (KeepsUp base new m Follows) (ticks_of k)
   ticks_added old new n m k Follows same more notes h = record {
     past = h.past;
     parts = ap (λ (l : List Note). l ++ ticks_of k) h.parts
         ∙ append_assoc h.past (ticks_of n) (ticks_of k)
         ∙ ap (λ (l : List Note). h.past ++ l) (replicate-append-replicate n k (Happened Tick)
         ∙ ap ticks_of (sym more));
-    run = subst (λ (state : CoreState). HasRun config h.past state) (sym same) h.run;
+    run = subst (λ (state : CoreState). HasRun base h.past state) (sym same) h.run;
     follows = h.follows;
   }
 
   pub ticks_followed : (old new : CoreState) (n : ℕ) (Old New : List Note → Type 0) (notes : List Note) →
-      ((past : List Note) → Old past → HasRun config past old → New (past ++ ticks_of n)) → ExtendsByTicks old new n →
-      KeepsUp config old n Old notes → KeepsUp config new 0 New notes
+      ((past : List Note) → Old past → HasRun base past old → New (past ++ ticks_of n)) → ExtendsByTicks old new n →
+      KeepsUp base old n Old notes → KeepsUp base new 0 New notes
   ticks_followed old new n Old New notes tell extends h =
       up_to_date new 0 New notes refl
-      (subst (λ (l : List Note). HasRun config l new) (sym h.parts) (run_ticks config old new n h.past extends h.run))
+      (subst (λ (l : List Note). HasRun base l new) (sym h.parts) (run_ticks base old new n h.past extends h.run))
       (subst New (sym h.parts) (tell h.past h.follows h.run))
 
   pub datagram_followed : (old mid new : CoreState) (n m : ℕ) (Old Mid New : List Note → Type 0) (event : Event)
       (sent : List Sent) →
-      ((notes : List Note) → KeepsUp config old n Old notes → KeepsUp config mid 0 Mid notes) →
+      ((notes : List Note) → KeepsUp base old n Old notes → KeepsUp base mid 0 Mid notes) →
       ExtendsHistory mid new event sent → m ≡ 0 →
-      ((notes : List Note) → Mid notes → HasRun config (notes ++ Happened event ∷ []) new →
+      ((notes : List Note) → Mid notes → HasRun base (notes ++ Happened event ∷ []) new →
       New (notes ++ Happened event ∷ [])) →
-      Adds (KeepsUp config old n Old) (KeepsUp config new m New) (Happened event ∷ [])
+      Adds (KeepsUp base old n Old) (KeepsUp base new m New) (Happened event ∷ [])
   datagram_followed old mid new n m Old Mid New event sent flush extends none tell notes h =
       let (run, follows) = caught_up mid Mid notes (flush notes h) in
-      let after = run_event config mid new event sent notes extends run in
+      let after = run_event base mid new event sent notes extends run in
       up_to_date new m New (notes ++ Happened event ∷ []) none after (tell notes follows after)
 
   pub comment_followed : (old new : CoreState) (n m : ℕ) (Old Mid New : List Note → Type 0) (line : List ℕ) →
-      ((notes : List Note) → KeepsUp config old n Old notes → KeepsUp config new 0 Mid notes) → m ≡ 0 →
+      ((notes : List Note) → KeepsUp base old n Old notes → KeepsUp base new 0 Mid notes) → m ≡ 0 →
       ((notes : List Note) → Mid notes → New (notes ++ Comment line ∷ [])) →
-      Adds (KeepsUp config old n Old) (KeepsUp config new m New) (Comment line ∷ [])
+      Adds (KeepsUp base old n Old) (KeepsUp base new m New) (Comment line ∷ [])
   comment_followed old new n m Old Mid New line flush none tell notes h =
       let (run, follows) = caught_up new Mid notes (flush notes h) in
-      up_to_date new m New (notes ++ Comment line ∷ []) none (run_comment config new line notes run)
+      up_to_date new m New (notes ++ Comment line ∷ []) none (run_comment base new line notes run)
       (tell notes follows)
 
 -- ## Lines that were run
 
-pub lines_start : (config : Config) (state : CoreState) (c : Bool) (n : ℕ) (Follows : List Note → Type 0) → n ≡ 0 →
-    c ≡ false → HasRun config [] state → Follows [] → KeepsLines config state c n Follows []
+pub lines_start : (base : World) (state : CoreState) (c : Bool) (n : ℕ) (Follows : List Note → Type 0) → n ≡ 0 →
+    c ≡ false → HasRun base [] state → Follows [] → KeepsLines base state c n Follows []
 unfolding expanded notes_of
-lines_start config state c n Follows none is run follows =
-    record { notes = []; are = refl; counted = is; keeps = up_to_date config state n Follows [] none run follows }
+lines_start base state c n Follows none is run follows =
+    record { notes = []; are = refl; counted = is; keeps = up_to_date base state n Follows [] none run follows }
 
 pub resumes_err : (s : Bool) (A B : Type 0) (P Q : ℕ → Type 0) (e : LineFault) → ((k : ℕ) → P k → Q k) →
     Resumes s A P (Err e) → Resumes s B Q (Err e)
@@ -198,16 +197,16 @@ notes_of_ticks (suc k) = notes_both (codes "tick" ∷ []) (replicate k (codes "t
 
 -- ## Lines that were read
 
-module _ (config : Config) (old new : CoreState) (c d : Bool) (n m : ℕ) (Old New : List Note → Type 0) where
+module _ (base : World) (old new : CoreState) (c d : Bool) (n m : ℕ) (Old New : List Note → Type 0) where
   abbrev Before : List (List ℕ) → Type 0
-  Before lines = KeepsLines config old c n Old lines
+  Before lines = KeepsLines base old c n Old lines
 
   abbrev After : List (List ℕ) → Type 0
-  After lines = KeepsLines config new d m New lines
+  After lines = KeepsLines base new d m New lines
 
   -- If a line counts no ticks and was run, the line was read.
   pub plain_read : (line : List ℕ) → counted_in c line ≡ None → d ≡ (c || is_mark line) →
-      LinesResumed (KeepsUp config old n Old) (KeepsUp config new m New) (line ∷ []) → Adds Before After (line ∷ [])
+      LinesResumed (KeepsUp base old n Old) (KeepsUp base new m New) (line ∷ []) → Adds Before After (line ∷ [])
   plain_read line none is r before h =
       let plain : lines_in (list_any is_mark before) line ≡ line ∷ [] =
       ap (λ (b : Bool). lines_in b line) (sym h.counted) ∙ plain_line c line none in
@@ -219,9 +218,9 @@ module _ (config : Config) (old new : CoreState) (c d : Bool) (n m : ℕ) (Old N
         keeps = r.adds h.notes h.keeps;
       }
 
-  -- Suppose lines are read as `k` lines `tick`, and contain no mark. If these ticks were appended, the lines were read.
+  -- Suppose lines are read as `k` `tick` lines, and contain no mark. If these ticks were appended, the lines were read.
   ticks_come : (lines : List (List ℕ)) (k : ℕ) → expanded c lines ≡ replicate k (codes "tick") →
-      list_any is_mark lines ≡ false → d ≡ c → Adds (KeepsUp config old n Old) (KeepsUp config new m New) (ticks_of k) →
+      list_any is_mark lines ≡ false → d ≡ c → Adds (KeepsUp base old n Old) (KeepsUp base new m New) (ticks_of k) →
       Adds Before After lines
   ticks_come lines k are none is adds before h =
       let same : expanded (list_any is_mark before) lines ≡ replicate k (codes "tick") =
@@ -237,20 +236,20 @@ module _ (config : Config) (old new : CoreState) (c d : Bool) (n m : ℕ) (Old N
 
   -- If the ticks that a line counts were appended, the line was read.
   pub count_read : (line : List ℕ) (k : ℕ) → counted_in c line ≡ Some k → d ≡ c →
-      Adds (KeepsUp config old n Old) (KeepsUp config new m New) (ticks_of k) → Adds Before After (line ∷ [])
+      Adds (KeepsUp base old n Old) (KeepsUp base new m New) (ticks_of k) → Adds Before After (line ∷ [])
   count_read line k counted is adds =
       ticks_come (line ∷ []) k (expanded_one c line ∙ counted_line c line k counted)
       (marks_more [] line ∙ counts_no_mark c line k counted) is adds
 
-  -- If `k` ticks were appended, `k` lines `tick` were read.
-  pub ticks_read : (k : ℕ) → d ≡ c → Adds (KeepsUp config old n Old) (KeepsUp config new m New) (ticks_of k) →
+  -- If `k` ticks were appended, `k` `tick` lines were read.
+  pub ticks_read : (k : ℕ) → d ≡ c → Adds (KeepsUp base old n Old) (KeepsUp base new m New) (ticks_of k) →
       Adds Before After (replicate k (codes "tick"))
   ticks_read k is adds = ticks_come (replicate k (codes "tick")) k (ticks_stay k c) (ticks_unmarked k) is adds
 
 -- Lines that were read are good.
-pub good : (config : Config) (state : CoreState) (c : Bool) (n : ℕ) (Follows : List Note → Type 0)
-    (lines : List (List ℕ)) → KeepsLines config state c n Follows lines → AreGood lines
-good config state c n Follows lines h = (h.notes, h.are)
+pub good : (base : World) (state : CoreState) (c : Bool) (n : ℕ) (Follows : List Note → Type 0)
+    (lines : List (List ℕ)) → KeepsLines base state c n Follows lines → AreGood lines
+good base state c n Follows lines h = (h.notes, h.are)
 
 -- ## Bad lines
 
@@ -277,9 +276,9 @@ bad_after_lines before line bad none =
     ∙ events_bad (expanded false before) line bad
 
 -- A line that is no script line and counts no ticks is bad.
-pub plain_bad : (config : Config) (state : CoreState) (c : Bool) (n : ℕ) (Follows : List Note → Type 0) (line : List ℕ) →
-    counted_in c line ≡ None → event_of line ≡ None → IsBadLine (KeepsLines config state c n Follows) line
-plain_bad config state c n Follows line none bad before h =
+pub plain_bad : (base : World) (state : CoreState) (c : Bool) (n : ℕ) (Follows : List Note → Type 0) (line : List ℕ) →
+    counted_in c line ≡ None → event_of line ≡ None → IsBadLine (KeepsLines base state c n Follows) line
+plain_bad base state c n Follows line none bad before h =
     bad_after_lines before line bad (ap (λ (b : Bool). counted_in b line) (sym h.counted) ∙ none)
 
 pub too_long : (Old : List (List ℕ) → Type 0) (line : List ℕ) → 140001 ≤ length line → IsBadLine Old line

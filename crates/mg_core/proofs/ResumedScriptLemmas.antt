@@ -6,7 +6,7 @@ use Rattle.std.proofs.KnownBytes.{Consumes-nil, Consumes-trans, Consumes-kept}
 use Rattle.std.specs.Io.KnownBytes.{Keeps, Consumes, IsAtEnd}
 use Rattle.std.specs.Result.{is_err}
 use Rattle.std.specs.Prelude.{OnOk}
-use Rattle.mg_engine.specs.declared.config.Config.{Config}
+use Rattle.mg_core.specs.World.{World}
 use Rattle.mg_lines.specs.Lines.{lines_after, lines_of}
 use Rattle.mg_core.specs.declared.fault.LineFault.{LineFault}
 use Rattle.mg_core.specs.declared.fault.LineFault.TheVariants as faults
@@ -96,14 +96,14 @@ bad_in_bytes Old i x y partial bytes n k (lines, p, old) eaten h =
           };
     }
 
-pub reaches_fault : (s : Bool) (config : Config) (Old New : List (List ℕ) → Type 0) (Follows : List Note → Type 0)
+pub reaches_fault : (s : Bool) (base : World) (Old New : List (List ℕ) → Type 0) (Follows : List Note → Type 0)
     (i x y : Option (List ℕ)) (partial bytes left : List ℕ) (n m : ℕ) (state : CoreState) (e : LineFault) →
     Reaches Old i x partial n → Consumes x y bytes → BytesResumed s n m partial bytes left Old New (Err e) →
-    AllResumed s config i y state Follows (Err (script_fault_of e))
-reaches_fault s config Old New Follows i x y partial bytes left n m state (faults.Bad k) come eaten h =
+    AllResumed s base i y state Follows (Err (script_fault_of e))
+reaches_fault s base Old New Follows i x y partial bytes left n m state (faults.Bad k) come eaten h =
     bad_in_bytes Old i x y partial bytes n k come eaten h
-reaches_fault s config Old New Follows i x y partial bytes left n m state faults.Write come eaten h = h
-reaches_fault s config Old New Follows i x y partial bytes left n m state faults.NoMemory come eaten h = tt
+reaches_fault s base Old New Follows i x y partial bytes left n m state faults.Write come eaten h = h
+reaches_fault s base Old New Follows i x y partial bytes left n m state faults.NoMemory come eaten h = tt
 
 abbrev AtEnd : Option (List ℕ) → Option (List ℕ) → Type 0
 AtEnd x y = Keeps x y × IsAtEnd y
@@ -117,13 +117,13 @@ split_at_end : (i x : Option (List ℕ)) (partial : List ℕ) (n : ℕ) (lines :
     (p : Far i x partial n lines) → lines_of true p.text ≡ lines ++ lines_after true partial []
 split_at_end i x partial n lines p = ap (lines_after true []) (sym (append-nil p.text)) ∙ p.split true []
 
-followed_at_end : (config : Config) (Old : List (List ℕ) → Type 0) (Follows : List Note → Type 0)
+followed_at_end : (base : World) (Old : List (List ℕ) → Type 0) (Follows : List Note → Type 0)
     (i x y : Option (List ℕ)) (partial : List ℕ) (n : ℕ) (state : CoreState) (c : Bool) → Reaches Old i x partial n →
-    AtEnd x y → Adds Old (KeepsLines config state c 0 Follows) (lines_after true partial []) →
-    IsFollowed config i y state Follows
-followed_at_end config Old Follows i x y partial n state c (lines, p, old) end h =
+    AtEnd x y → Adds Old (KeepsLines base state c 0 Follows) (lines_after true partial []) →
+    IsFollowed base i y state Follows
+followed_at_end base Old Follows i x y partial n state c (lines, p, old) end h =
     let kept = h lines old in
-    let (run, follows) = caught_up config state Follows kept.notes kept.keeps in
+    let (run, follows) = caught_up base state Follows kept.notes kept.keeps in
     record {
       script = p.text;
       read = read_to_end i x y partial n lines end p;
@@ -155,17 +155,17 @@ bad_at_end Old i x y partial n k are_good (lines, p, old) end h =
       };
     }
 
-pub reaches_end : (s : Bool) (config : Config) (Old : List (List ℕ) → Type 0) (Follows : List Note → Type 0)
+pub reaches_end : (s : Bool) (base : World) (Old : List (List ℕ) → Type 0) (Follows : List Note → Type 0)
     (i x y : Option (List ℕ)) (partial : List ℕ) (n : ℕ) (state : CoreState) (c : Bool)
     (r : Result (Unit {0}) LineFault) → ((lines : List (List ℕ)) → Old lines → AreGood lines) →
-    Reaches Old i x partial n → AtEnd x y → LastResumed s n partial Old (KeepsLines config state c 0 Follows) r →
-    AllResumed s config i y state Follows (script_result r)
-reaches_end s config Old Follows i x y partial n state c (Ok done) are_good come end h =
-    followed_at_end config Old Follows i x y partial n state c come end h
-reaches_end s config Old Follows i x y partial n state c (Err (faults.Bad k)) are_good come end h =
+    Reaches Old i x partial n → AtEnd x y → LastResumed s n partial Old (KeepsLines base state c 0 Follows) r →
+    AllResumed s base i y state Follows (script_result r)
+reaches_end s base Old Follows i x y partial n state c (Ok done) are_good come end h =
+    followed_at_end base Old Follows i x y partial n state c come end h
+reaches_end s base Old Follows i x y partial n state c (Err (faults.Bad k)) are_good come end h =
     bad_at_end Old i x y partial n k are_good come end h
-reaches_end s config Old Follows i x y partial n state c (Err faults.Write) are_good come end h = h
-reaches_end s config Old Follows i x y partial n state c (Err faults.NoMemory) are_good come end h = tt
+reaches_end s base Old Follows i x y partial n state c (Err faults.Write) are_good come end h = h
+reaches_end s base Old Follows i x y partial n state c (Err faults.NoMemory) are_good come end h = tt
 
 -- ## The last line
 
@@ -202,9 +202,9 @@ last_line_resumed s count line partial Old New r is e h =
 
 -- ## The result of a resumption
 
-pub is_resumed : (config : Config) (i y : Option (List ℕ)) (state : CoreState) (Follows : List Note → Type 0) →
-    IsFollowed config i y state Follows → IsResumed config i y state
-is_resumed config i y state Follows h = record {
+pub is_resumed : (base : World) (i y : Option (List ℕ)) (state : CoreState) (Follows : List Note → Type 0) →
+    IsFollowed base i y state Follows → IsResumed base i y state
+is_resumed base i y state Follows h = record {
   script = h.script;
   read = h.read;
   events = events_in h.notes;
@@ -214,10 +214,10 @@ is_resumed config i y state Follows h = record {
   history = h.run.2;
 }
 
-pub is_followed : (config : Config) (i y : Option (List ℕ)) (state : CoreState) (Starts : Type 0)
-    (Follows : List Note → Type 0) → Starts → IsFollowed config i y state (λ notes. Starts → Follows notes) →
-    IsFollowed config i y state Follows
-is_followed config i y state Starts Follows start h = record {
+pub is_followed : (base : World) (i y : Option (List ℕ)) (state : CoreState) (Starts : Type 0)
+    (Follows : List Note → Type 0) → Starts → IsFollowed base i y state (λ notes. Starts → Follows notes) →
+    IsFollowed base i y state Follows
+is_followed base i y state Starts Follows start h = record {
   script = h.script;
   read = h.read;
   notes = h.notes;
@@ -226,25 +226,25 @@ is_followed config i y state Starts Follows start h = record {
   follows = h.follows start;
 }
 
-pub bad_line_found : {A : Type 0} (s : Bool) (config : Config) (i y : Option (List ℕ)) (state : CoreState)
+pub bad_line_found : {A : Type 0} (s : Bool) (base : World) (i y : Option (List ℕ)) (state : CoreState)
     (Follows : List Note → Type 0) (r : Result A RunFault) (fault : RunFault) (e : ScriptFault) →
-    AllResumed s config i y state Follows (Err e) → r ≡ Err fault → fault ≡ run_fault_of e → (number : ℕ) →
+    AllResumed s base i y state Follows (Err e) → r ≡ Err fault → fault ≡ run_fault_of e → (number : ℕ) →
     r ≡ Err (runs.Script number) → FindsBadLine i y number
-bad_line_found s config i y state Follows r fault (scripts.Bad k) h failed same number is =
+bad_line_found s base i y state Follows r fault (scripts.Bad k) h failed same number is =
     subst (λ (n : ℕ). FindsBadLine i y n) (cc (failed, same, is)) h
-bad_line_found s config i y state Follows r fault scripts.Read h failed same number is = absurd (cc (failed, same, is))
-bad_line_found s config i y state Follows r fault scripts.Write h failed same number is = absurd (cc (failed, same, is))
-bad_line_found s config i y state Follows r fault scripts.NoMemory h failed same number is =
+bad_line_found s base i y state Follows r fault scripts.Read h failed same number is = absurd (cc (failed, same, is))
+bad_line_found s base i y state Follows r fault scripts.Write h failed same number is = absurd (cc (failed, same, is))
+bad_line_found s base i y state Follows r fault scripts.NoMemory h failed same number is =
     absurd (cc (failed, same, is))
 
-pub follower_stopped : {A : Type 0} (s : Bool) (config : Config) (i y : Option (List ℕ)) (state : CoreState)
+pub follower_stopped : {A : Type 0} (s : Bool) (base : World) (i y : Option (List ℕ)) (state : CoreState)
     (Follows : List Note → Type 0) (r : Result A RunFault) (fault : RunFault) (e : ScriptFault) →
-    AllResumed s config i y state Follows (Err e) → r ≡ Err fault → fault ≡ run_fault_of e → r ≡ Err runs.Write →
+    AllResumed s base i y state Follows (Err e) → r ≡ Err fault → fault ≡ run_fault_of e → r ≡ Err runs.Write →
     s ≡ true
-follower_stopped s config i y state Follows r fault (scripts.Bad k) h failed same is = absurd (cc (failed, same, is))
-follower_stopped s config i y state Follows r fault scripts.Read h failed same is = absurd (cc (failed, same, is))
-follower_stopped s config i y state Follows r fault scripts.Write h failed same is = h
-follower_stopped s config i y state Follows r fault scripts.NoMemory h failed same is = absurd (cc (failed, same, is))
+follower_stopped s base i y state Follows r fault (scripts.Bad k) h failed same is = absurd (cc (failed, same, is))
+follower_stopped s base i y state Follows r fault scripts.Read h failed same is = absurd (cc (failed, same, is))
+follower_stopped s base i y state Follows r fault scripts.Write h failed same is = h
+follower_stopped s base i y state Follows r fault scripts.NoMemory h failed same is = absurd (cc (failed, same, is))
 
 pub not_begun : {A : Type 0} (i y : Option (List ℕ)) (r : Result A RunFault) (fault : RunFault) (f : StartFault) →
     r ≡ Err fault → fault ≡ run_fault_at_start f → (number : ℕ) → r ≡ Err (runs.Script number) →
@@ -271,15 +271,15 @@ unfolding reaches_start
 waits_start done Follows Old input partial count none zero_is start =
     (reaches_start Old input partial count none zero_is start, inl refl)
 
-pub followed_to_end : {F : Type 0} (config : Config) (Old : List (List ℕ) → Type 0) (i x y : Option (List ℕ))
+pub followed_to_end : {F : Type 0} (base : World) (Old : List (List ℕ) → Type 0) (i x y : Option (List ℕ))
     (partial : List ℕ) (n : ℕ) (state : CoreState) (c : Bool) (done : F → Bool) (Follows : F → List Note → Type 0)
     (last : F) → Waits done Follows Old i x partial n → AtEnd x y →
-    Adds Old (KeepsLines config state c 0 (Follows last)) (lines_after true partial []) →
-    IsFollowedUntil config i y state done Follows last
+    Adds Old (KeepsLines base state c 0 (Follows last)) (lines_after true partial []) →
+    IsFollowedUntil base i y state done Follows last
 unfolding followed_at_end
-followed_to_end config Old i x y partial n state c done Follows last (r, waits) end h =
+followed_to_end base Old i x y partial n state c done Follows last (r, waits) end h =
     let p = r.1 in
-    let f = followed_at_end config Old (Follows last) i x y partial n state c r end h in
+    let f = followed_at_end base Old (Follows last) i x y partial n state c r end h in
     let same : p.text ++ [] ≡ p.text = append-nil p.text in
     record {
       front = p.text;
@@ -308,62 +308,62 @@ complete i x partial n lines p =
     ∙ ap (λ (l : List (List ℕ)). lines ++ l) (no_part partial) ∙ append-nil lines
 
 -- After all pending ticks were run, the same lines have been read, and no tick is pending.
-pub ticks_run : (config : Config) (old new : CoreState) (c d : Bool) (n : ℕ) (Old New : List Note → Type 0) → d ≡ c →
-    ((notes : List Note) → KeepsUp config old n Old notes → KeepsUp config new 0 New notes) →
-    (lines : List (List ℕ)) → KeepsLines config old c n Old lines → KeepsLines config new d 0 New lines
-ticks_run config old new c d n Old New is run lines h =
+pub ticks_run : (base : World) (old new : CoreState) (c d : Bool) (n : ℕ) (Old New : List Note → Type 0) → d ≡ c →
+    ((notes : List Note) → KeepsUp base old n Old notes → KeepsUp base new 0 New notes) →
+    (lines : List (List ℕ)) → KeepsLines base old c n Old lines → KeepsLines base new d 0 New lines
+ticks_run base old new c d n Old New is run lines h =
     record { notes = h.notes; are = h.are; counted = is ∙ h.counted; keeps = run h.notes h.keeps }
 
 -- One more piece of the script was read, and its ticks were run.
-pub record Advances {F : Type 0} (config : Config) (state : CoreState) (c : Bool) (done : F → Bool)
+pub record Advances {F : Type 0} (base : World) (state : CoreState) (c : Bool) (done : F → Bool)
     (Follows : F → List Note → Type 0) (now : F) (i x y : Option (List ℕ)) (front piece left : List ℕ) (m : ℕ)
     : Type 0 where
   pub lines : List (List ℕ)
   pub far : Far i y left m lines
   pub text : far.text ≡ front ++ piece
-  pub keeps : KeepsLines config state c 0 (Follows now) lines
+  pub keeps : KeepsLines base state c 0 (Follows now) lines
 
-pub advances : {F : Type 0} (config : Config) (state : CoreState) (c : Bool) (done : F → Bool)
+pub advances : {F : Type 0} (base : World) (state : CoreState) (c : Bool) (done : F → Bool)
     (Follows : F → List Note → Type 0) (now : F) (Old Mid : List (List ℕ) → Type 0) (i x y : Option (List ℕ))
     (partial piece left : List ℕ) (n m : ℕ) (r : Reaches Old i x partial n) → Consumes x y piece →
     BytesRun n m partial piece left [] Old Mid →
-    ((lines : List (List ℕ)) → Mid lines → KeepsLines config state c 0 (Follows now) lines) →
-    Advances config state c done Follows now i x y r.1.text piece left m
+    ((lines : List (List ℕ)) → Mid lines → KeepsLines base state c 0 (Follows now) lines) →
+    Advances base state c done Follows now i x y r.1.text piece left m
 unfolding reaches_bytes
-advances config state c done Follows now Old Mid i x y partial piece left n m r eaten h step =
+advances base state c done Follows now Old Mid i x y partial piece left n m r eaten h step =
     let next = reaches_bytes Old Mid i x y partial piece left n m r eaten h in
     record { lines = next.0; far = next.1; text = refl; keeps = step next.0 next.2 }
 
 -- In a record `Advances`, the notes in `keeps` are the notes of the complete lines of the text.
-advanced_notes : {F : Type 0} (config : Config) (state : CoreState) (c : Bool) (done : F → Bool)
+advanced_notes : {F : Type 0} (base : World) (state : CoreState) (c : Bool) (done : F → Bool)
     (Follows : F → List Note → Type 0) (now : F) (i x y : Option (List ℕ)) (front piece left : List ℕ) (m : ℕ)
-    (a : Advances config state c done Follows now i x y front piece left m) →
+    (a : Advances base state c done Follows now i x y front piece left m) →
     notes_of (journal_lines false a.far.text) ≡ Some a.keeps.notes
-advanced_notes config state c done Follows now i x y front piece left m a =
+advanced_notes base state c done Follows now i x y front piece left m a =
     ap (λ (l : List (List ℕ)). notes_of (expanded false l)) (complete i y left m a.lines a.far) ∙ a.keeps.are
 
-pub waits_on : {F : Type 0} (config : Config) (state : CoreState) (c : Bool) (done : F → Bool)
+pub waits_on : {F : Type 0} (base : World) (state : CoreState) (c : Bool) (done : F → Bool)
     (Follows : F → List Note → Type 0) (now : F) (i x y : Option (List ℕ)) (front piece left : List ℕ) (m ticks : ℕ) →
-    ticks ≡ 0 → done now ≡ false → Advances config state c done Follows now i x y front piece left m →
-    Waits done Follows (KeepsLines config state c ticks (Follows now)) i y left m
-waits_on config state c done Follows now i x y front piece left m ticks none undone a =
-    let (run, follows) = caught_up config state (Follows now) a.keeps.notes a.keeps.keeps in (
-      (a.lines, a.far, subst (λ (k : ℕ). KeepsLines config state c k (Follows now) a.lines) (sym none) a.keeps),
+    ticks ≡ 0 → done now ≡ false → Advances base state c done Follows now i x y front piece left m →
+    Waits done Follows (KeepsLines base state c ticks (Follows now)) i y left m
+waits_on base state c done Follows now i x y front piece left m ticks none undone a =
+    let (run, follows) = caught_up base state (Follows now) a.keeps.notes a.keeps.keeps in (
+      (a.lines, a.far, subst (λ (k : ℕ). KeepsLines base state c k (Follows now) a.lines) (sym none) a.keeps),
       inr (record {
         follower = now;
         notes = a.keeps.notes;
-        are = advanced_notes config state c done Follows now i x y front piece left m a;
+        are = advanced_notes base state c done Follows now i x y front piece left m a;
         follows = follows;
         undone = undone;
       }),
     )
 
-pub followed_to_done : {F : Type 0} (config : Config) (state : CoreState) (c : Bool) (done : F → Bool)
+pub followed_to_done : {F : Type 0} (base : World) (state : CoreState) (c : Bool) (done : F → Bool)
     (Follows : F → List Note → Type 0) (now : F) (i x y : Option (List ℕ)) (front piece left : List ℕ) (m : ℕ) →
     length piece ≤ 4096 → ((front ≡ []) ⊎ GoesOn done Follows front) → done now ≡ true →
-    Advances config state c done Follows now i x y front piece left m → IsFollowedUntil config i y state done Follows now
-followed_to_done config state c done Follows now i x y front piece left m short waits is_done a =
-    let (run, follows) = caught_up config state (Follows now) a.keeps.notes a.keeps.keeps in
+    Advances base state c done Follows now i x y front piece left m → IsFollowedUntil base i y state done Follows now
+followed_to_done base state c done Follows now i x y front piece left m short waits is_done a =
+    let (run, follows) = caught_up base state (Follows now) a.keeps.notes a.keeps.keeps in
     record {
       front = front;
       piece = piece;
@@ -375,16 +375,16 @@ followed_to_done config state c done Follows now i x y front piece left m short 
       until = λ e. absurd (true≢false (sym is_done ∙ e));
       notes = a.keeps.notes;
       are = ap (λ (l : List ℕ). notes_of (journal_lines false l)) (sym a.text)
-          ∙ advanced_notes config state c done Follows now i x y front piece left m a;
+          ∙ advanced_notes base state c done Follows now i x y front piece left m a;
       run = run;
       follows = follows;
     }
 
-pub is_followed_until : {F : Type 0} (config : Config) (i y : Option (List ℕ)) (state : CoreState) (done : F → Bool)
+pub is_followed_until : {F : Type 0} (base : World) (i y : Option (List ℕ)) (state : CoreState) (done : F → Bool)
     (Starts : Type 0) (Follows : F → List Note → Type 0) (last : F) → Starts →
-    IsFollowedUntil config i y state done (λ f notes. Starts → Follows f notes) last →
-    IsFollowedUntil config i y state done Follows last
-is_followed_until config i y state done Starts Follows last start h = record {
+    IsFollowedUntil base i y state done (λ f notes. Starts → Follows f notes) last →
+    IsFollowedUntil base i y state done Follows last
+is_followed_until base i y state done Starts Follows last start h = record {
   front = h.front;
   piece = h.piece;
   size = h.size;

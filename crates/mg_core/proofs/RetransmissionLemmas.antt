@@ -23,7 +23,7 @@ use Rattle.mg_core.specs.Answer.{answer_head, answered, has_requests, if_asked, 
 use Rattle.mg_core.specs.aids.Answers.{unless_kept}
 use Rattle.mg_core.specs.Retransmissions.{AcknowledgedAreDropped, DroppedRequestsAreRerun, IsNotRequested, NewReplyIsNewest, EvictedAreDropped, RepliesAreKept, RepliesPersist, AllPreserveReply, PreservesReply, acknowledges, is_request_for, kept_for, kept_for_all}
 use Rattle.mg_core.specs.Step.{Run, Sent, Step}
-use Rattle.mg_core.specs.World.{World, start_of, with_control}
+use Rattle.mg_core.specs.World.{World, with_control}
 
 -- Whether a reply is kept for a request determines how the request is answered.
 pub replied_by : (source sender : List ℕ) (request : Request) (w : World) (o : Option (List ℕ)) →
@@ -293,7 +293,7 @@ module _ (distinct : KeptStayDistinct) where
       items_keep source from (mark_after mark x) xs (item_replied source from mark x w).1
       (item_keeps source from mark x w h)
 
-  event_keeps : (w next : World) (event : Event) (sent : List Sent) → Step w event sent next → AreKept w.replies →
+  pub event_keeps : (w next : World) (event : Event) (sent : List Sent) → Step w event sent next → AreKept w.replies →
       AreKept next.replies
   event_keeps w next (Control source bytes) sent (answer, (reading, reads, represents), reported) h =
       has_history (with_control w) next bytes reading answer represents (λ (v : World). AreKept v.replies)
@@ -310,6 +310,4 @@ module _ (distinct : KeptStayDistinct) where
       events_keep next last events more run (event_keeps w next event first step h)
 
   pub replies_are_kept : RepliesAreKept
-  replies_are_kept config events sent w run =
-      events_keep (start_of config) w events sent run
-      (record { at_most = omega arith; distinct = λ i j d lt within. absurd (omega arith) })
+  replies_are_kept base events sent w kept run = events_keep base w events sent run kept

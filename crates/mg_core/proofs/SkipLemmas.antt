@@ -1,11 +1,12 @@
 -- The world after several ticks.
 use Rattle.std.proofs.Common.{◌≡◌, ℕ, zero, suc, ◌+◌, List, [], ◌++◌, map, replicate, refl, ◌∙◌, arith}
-use Rattle.mg_engine.specs.Tick.{after_tick, after_ticks, concealed_in_tick, concealed_in_ticks}
+use Rattle.mg_engine.specs.Tick.{after_tick, concealed_in_tick}
+use Rattle.mg_engine.specs.aids.Ticks.{after_ticks, concealed_in_ticks}
 use Rattle.mg_core.specs.declared.event.Event.TheVariants.{Tick}
 use Rattle.mg_core.specs.declared.state.CoreState.{CoreState}
 use Rattle.mg_core.specs.Headline.{ExtendsByTicks}
 use Rattle.mg_core.specs.Step.{Sent, Packet, Run}
-use Rattle.mg_core.specs.World.{World, packets_of, start_of, world_after_tick, world_after_ticks}
+use Rattle.mg_core.specs.World.{World, packets_of, world_after_tick, world_after_ticks}
 use Rattle.mg_core.specs.aids.Stands.{StandsFor}
 use Rattle.mg_core.proofs.RunLemmas.{run_both}
 
@@ -62,12 +63,12 @@ ticks_run (suc n) w =
 
 pub extends_by_ticks : (old new : CoreState) (count : ℕ) →
     ((w : World) → StandsFor old w → StandsFor new (world_after_ticks count w)) → ExtendsByTicks old new count
-extends_by_ticks old new count leads config events before w (run, stands) =
+extends_by_ticks old new count leads base events before w (run, stands) =
     let (sent, ran) = ticks_run count w in (
       sent,
       world_after_ticks count w,
       (
-        run_both (start_of config) w (world_after_ticks count w) events (replicate count Tick) before sent run ran,
+        run_both base w (world_after_ticks count w) events (replicate count Tick) before sent run ran,
         leads w stands,
       ),
     )

@@ -93,13 +93,13 @@ UnheardChangesNothing =
     → Run a (to_first xs) s x → Run b (to_second xs) t y
     → AgreeOutside some x y × NextTickIsSame some port x y
 
--- `UnheardChangesNothing` holds after two histories of gateways that started with the same configuration.
+-- `UnheardChangesNothing` holds after two histories of gateways that began with the same world.
 abbrev pub UnheardInHistories : Type 0
 UnheardInHistories =
-    (some : List ℕ) (port : ℕ) (config : Config) (xs : List Happening) (s t : List Sent)
+    (some : List ℕ) (port : ℕ) (base : World) (xs : List Happening) (s t : List Sent)
     (v w : World) (one other : CoreState)
-    → DifferAtPortsOf some (start_of config) xs
-    → HasHistory config (to_first xs) s v one → HasHistory config (to_second xs) t w other
+    → DifferAtPortsOf some base xs
+    → HasHistory base (to_first xs) s v one → HasHistory base (to_second xs) t w other
     → NextTickIsSame some port v w
 
 -- The first events lead to the world `w`, and a tick follows. The first events, this tick and everything after it send

@@ -1,5 +1,5 @@
 -- Counted ticks. When a gateway starts, it appends the line `# counted ticks` to its journal. After this line, a line
--- such as `ticks 12` is read as twelve lines `tick`. Anywhere else, for example in a recording, it is a bad line.
+-- such as `ticks 12` is read as twelve `tick` lines. Anywhere else, for example in a recording, it is a bad line.
 use Rattle.std.specs.Prelude.{◌≡◌, ℕ, ◌^◌, ◌<◌, ◌&&◌, ◌||◌, not, Bool, true, false, List, [], ◌∷◌, ◌++◌, codes, drop, take}
 use Rattle.std.specs.Prelude.{decimal, replicate, Option, Some, None, if◌then◌else◌}
 use Rattle.std.specs.Option.{option_map_or}

@@ -5,11 +5,10 @@ use Rattle.mg_core.specs.declared.counts.Counts.{Counts}
 use Rattle.mg_core.specs.declared.event.Event.{Event}
 use Rattle.mg_core.specs.declared.event.Event.TheVariants.{Media}
 use Rattle.mg_core.specs.declared.shown.Shown.{Shown}
-use Rattle.mg_core.specs.declared.state.CoreState.{CoreState}
-use Rattle.mg_core.specs.Headline.{HasHistory, IsStart}
+use Rattle.mg_core.specs.Base.{IsBase, IsStart}
 use Rattle.mg_core.specs.Run.{RanToEnd}
 use Rattle.mg_core.specs.Step.{Sent, Run}
-use Rattle.mg_core.specs.World.{World, start_of}
+use Rattle.mg_core.specs.World.{World}
 
 -- Whether an event is an RTP datagram at another port.
 abbrev pub is_elsewhere : ℕ → Event → Bool
@@ -29,17 +28,9 @@ AreSameToEachPort a b = (port : ℕ) → seen_at port a ≡ seen_at port b
 -- the same order, and ends in the same world.
 abbrev pub PortOrderIsIrrelevant : Type 0
 PortOrderIsIrrelevant =
-    (config : Config) (a b : List Event) (s t : List Sent) (v w : World)
-    → IsStart config → AreSameToEachPort a b
-    → Run (start_of config) a s v → Run (start_of config) b t w → (s ≡ t) × (v ≡ w)
-
--- Suppose two gateways started with the same configuration, and their events are the same to each port. Then the
--- gateways send the same datagrams, and end in the same world.
-abbrev pub PortOrderInHistories : Type 0
-PortOrderInHistories =
-    (config : Config) (a b : List Event) (s t : List Sent) (v w : World) (one other : CoreState)
-    → IsStart config → AreSameToEachPort a b
-    → HasHistory config a s v one → HasHistory config b t w other → (s ≡ t) × (v ≡ w)
+    (base : World) (a b : List Event) (s t : List Sent) (v w : World)
+    → IsBase base → AreSameToEachPort a b
+    → Run base a s v → Run base b t w → (s ≡ t) × (v ≡ w)
 
 -- Suppose two scripts were run to the end in either form of output, and their events are the same to each port. Then
 -- both runs write the same datagrams, and end in the same world.

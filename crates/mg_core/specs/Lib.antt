@@ -3,6 +3,7 @@ pub mod World
 pub mod Answer
 pub mod Parsed
 pub mod Step
+pub mod Base
 pub mod Work
 pub mod Script
 pub mod Counted

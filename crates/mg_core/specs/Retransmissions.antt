@@ -12,13 +12,12 @@ use Rattle.mg_text.specs.declared.body.MessageItem.TheVariants as items
 use Rattle.mg_text.specs.declared.message.Message.{Message}
 use Rattle.mg_text.specs.declared.request.Request.{Request}
 use Rattle.mg_text.specs.Message.{IsMessage, items_of}
-use Rattle.mg_engine.specs.declared.config.Config.{Config}
 use Rattle.mg_commands.specs.Transaction.{replied}
 use Rattle.mg_core.specs.declared.event.Event.{Event}
 use Rattle.mg_core.specs.declared.event.Event.TheVariants.{Control}
 use Rattle.mg_core.specs.Answer.{item_replied, request_replied, run_and_kept}
 use Rattle.mg_core.specs.Step.{Sent, Step, Run}
-use Rattle.mg_core.specs.World.{World, start_of, with_control}
+use Rattle.mg_core.specs.World.{World, with_control}
 
 -- While the reply to a request is kept, it answers the request, whatever the request contains, and nothing is executed.
 abbrev pub KeptRepliesAreSent : Type 0
@@ -142,9 +141,9 @@ DroppedRequestsAreRerun =
     → request_replied source same again last
     ≡ run_and_kept same again.number last (replied source again last.gateway)
 
--- After any sequence of events, the kept replies satisfy their invariant: there are at most 32, and
--- no two answer the same request.
+-- Events preserve the invariant of the kept replies: there are at most 32, and no two answer the same request. A new
+-- gateway keeps no replies.
 abbrev pub RepliesAreKept : Type 0
 RepliesAreKept =
-    (config : Config) (events : List Event) (sent : List Sent) (w : World)
-    → Run (start_of config) events sent w → AreKept w.replies
+    (base : World) (events : List Event) (sent : List Sent) (w : World)
+    → AreKept base.replies → Run base events sent w → AreKept w.replies

@@ -5,7 +5,7 @@ ghost use Rattle.mg_engine.specs.Work.{RisesAtMost};
 ghost use Rattle.mg_kept.specs.KeptReplies.{kept_text};
 ghost use Rattle.mg_reply.specs.Bytes.{appended};
 ghost use Rattle.mg_words.specs.ErrorNumber.{error_text};
-ghost use Rattle.mg_reply.specs.Reply.{IsWhole};
+ghost use Rattle.mg_reply.specs.aids.Whole.{IsWhole};
 ghost use Rattle.mg_reply.specs.Written.{head_text};
 ghost use Rattle.mg_text.specs.Message.{items_of, requests_in};
 ghost use Rattle.mg_text.specs.Proper.{are_proper, item_is_proper, request_is_proper};

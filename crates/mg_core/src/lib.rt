@@ -32,6 +32,7 @@ mod listener;
 mod listeners;
 mod machine;
 mod output;
+mod oversized;
 mod parsed;
 mod peer;
 mod resumer;
@@ -55,15 +56,16 @@ pub use crate::event_line::EventLine;
 pub use crate::fault::{NoMemory, RunFault};
 pub use crate::follower::Follower;
 pub use crate::machine::{ANSWER_LIMIT, Core};
+pub use crate::oversized::is_oversized;
 pub use crate::parsed::Parsed;
 pub use crate::peer::peer_of;
-pub use crate::resuming::resume;
+pub use crate::resuming::{resume, resume_from};
 pub use crate::running::run;
 pub use crate::script::DATAGRAM_LIMIT;
 pub use crate::shown::Shown;
 pub use crate::stopped::Stopped;
 pub use crate::watcher::Watcher;
-pub use crate::watching::watch;
+pub use crate::watching::{watch, watch_from};
 // Contracts in other crates can name a core only if the type of the core's state is exported.
 #[doc(hidden)]
 pub use crate::state::CoreState;

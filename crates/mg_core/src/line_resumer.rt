@@ -1,10 +1,9 @@
 ghost use Rattle.std.specs.Prelude.{◌≡◌, ◌↔◌, ◌||◌, [], false, true, List, ℕ, Err, IfOk, None, OnOk, OnErr};
-ghost use Rattle.mg_engine.specs.Config.{IsValidConfig};
-ghost use Rattle.mg_engine.specs.declared.config.Config.{Config};
 ghost use Rattle.mg_core.specs.aids.Resuming.{Adds, EventResumed, HasFollowed, KeepsLines, KeepsUp, LineRead, LineResumed, counted_in};
 ghost use Rattle.mg_core.specs.Counted.{is_mark};
 ghost use Rattle.mg_core.specs.Follow.{HasRun, ticks_of};
 ghost use Rattle.mg_core.specs.Note.{Note};
+ghost use Rattle.mg_core.specs.World.{World};
 
 use crate::counted::{is_mark, ticks_in};
 use crate::event::Event;
@@ -13,7 +12,6 @@ use crate::follower::Follower;
 use crate::machine::Core;
 use crate::script::{ParseFault, event_of};
 use crate::stopped::Stopped;
-use mg_engine::{Config, StartFault};
 use std::alloc::Global;
 
 /// Runs the lines of a script on a gateway, without output. Consecutive ticks are run together.
@@ -27,27 +25,24 @@ pub struct LineResumer {
 }
 
 impl LineResumer {
-    /// Creates a runner with a new gateway.
-    pub fn new(alloc: Global, config: Config) -> Result<Self, StartFault>
-        ensures bad { (result ≡ Err StartFault.BadConfig) ↔ ¬ IsValidConfig config }
-        ensures sound { OnOk result (IsValidConfig config) }
-        ensures start { IfOk result (λ runner. HasRun config [] runner.core.state) }
-        ensures ticks { IfOk result (λ runner. runner.ticks ≡ 0) }
-        ensures counts { IfOk result (λ runner. runner.counts ≡ false) }
+    /// Creates a runner with a gateway in this state.
+    pub fn new(core: Core) -> Self
+        ensures core { result.core ≡ core }
+        ensures ticks { result.ticks ≡ 0 }
+        ensures counts { result.counts ≡ false }
     {
-        let core = Core::new(alloc, config)?;
-        Ok(LineResumer {
+        LineResumer {
             core,
             ticks: 0,
             counts: false,
-        })
+        }
     }
 
     /// Reports the ticks that have been counted but not run yet to the follower, and then runs them.
     pub fn run_ticks<F: Follower>(&mut self, follower: &mut F) -> Result<(), Stopped>
-        ensures value { (start : F) (config : Config) (notes : List Note) →
-            KeepsUp config self.old.core.state self.old.ticks (HasFollowed F.follows start follower.old config) notes →
-            OnOk result (KeepsUp config self.new.core.state 0 (HasFollowed F.follows start follower.new config) notes) }
+        ensures value { (start : F) (base : World) (notes : List Note) →
+            KeepsUp base self.old.core.state self.old.ticks (HasFollowed F.follows start follower.old base) notes →
+            OnOk result (KeepsUp base self.new.core.state 0 (HasFollowed F.follows start follower.new base) notes) }
         ensures ticks { OnOk result (self.new.ticks ≡ 0) }
         ensures counts { self.new.counts ≡ self.old.counts }
         ensures stops { OnErr result (F.may_stop ≡ true) }
@@ -63,9 +58,9 @@ impl LineResumer {
 
     /// Counts ticks, to be run later. If the count would reach 2^64, first runs the ticks that were counted before.
     pub fn take_ticks<F: Follower>(&mut self, count: u64, follower: &mut F) -> Result<(), Stopped>
-        ensures value { (start : F) (config : Config) → OnOk result (Adds
-            (KeepsUp config self.old.core.state self.old.ticks (HasFollowed F.follows start follower.old config))
-            (KeepsUp config self.new.core.state self.new.ticks (HasFollowed F.follows start follower.new config))
+        ensures value { (start : F) (base : World) → OnOk result (Adds
+            (KeepsUp base self.old.core.state self.old.ticks (HasFollowed F.follows start follower.old base))
+            (KeepsUp base self.new.core.state self.new.ticks (HasFollowed F.follows start follower.new base))
             (ticks_of count)) }
         ensures counts { self.new.counts ≡ self.old.counts }
         ensures stops { OnErr result (F.may_stop ≡ true) }
@@ -87,9 +82,9 @@ impl LineResumer {
         event: &Event,
         follower: &mut F,
     ) -> Result<(), LineFault>
-        ensures value { (start : F) (config : Config) → EventResumed F.may_stop event.now
-            (KeepsUp config self.old.core.state self.old.ticks (HasFollowed F.follows start follower.old config))
-            (KeepsUp config self.new.core.state self.new.ticks (HasFollowed F.follows start follower.new config))
+        ensures value { (start : F) (base : World) → EventResumed F.may_stop event.now
+            (KeepsUp base self.old.core.state self.old.ticks (HasFollowed F.follows start follower.old base))
+            (KeepsUp base self.new.core.state self.new.ticks (HasFollowed F.follows start follower.new base))
             result }
         ensures counts { self.new.counts ≡ self.old.counts }
     {
@@ -121,9 +116,9 @@ impl LineResumer {
         line: &[u8],
         follower: &mut F,
     ) -> Result<(), LineFault>
-        ensures value { (start : F) (config : Config) → LineResumed F.may_stop number line.now
-            (KeepsUp config self.old.core.state self.old.ticks (HasFollowed F.follows start follower.old config))
-            (KeepsUp config self.new.core.state self.new.ticks (HasFollowed F.follows start follower.new config))
+        ensures value { (start : F) (base : World) → LineResumed F.may_stop number line.now
+            (KeepsUp base self.old.core.state self.old.ticks (HasFollowed F.follows start follower.old base))
+            (KeepsUp base self.new.core.state self.new.ticks (HasFollowed F.follows start follower.new base))
             result }
         ensures counts { self.new.counts ≡ self.old.counts }
     {
@@ -163,11 +158,11 @@ impl LineResumer {
         line: &[u8],
         follower: &mut F,
     ) -> Result<(), LineFault>
-        ensures value { (start : F) (config : Config) → LineRead F.may_stop number line.now
-            (KeepsLines config self.old.core.state self.old.counts self.old.ticks
-            (HasFollowed F.follows start follower.old config))
-            (KeepsLines config self.new.core.state self.new.counts self.new.ticks
-            (HasFollowed F.follows start follower.new config)) result }
+        ensures value { (start : F) (base : World) → LineRead F.may_stop number line.now
+            (KeepsLines base self.old.core.state self.old.counts self.old.ticks
+            (HasFollowed F.follows start follower.old base))
+            (KeepsLines base self.new.core.state self.new.counts self.new.ticks
+            (HasFollowed F.follows start follower.new base)) result }
     {
         match self.counted_in(line) {
             Some(count) => self.take_ticks(count, follower)?,

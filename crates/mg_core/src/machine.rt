@@ -87,7 +87,7 @@ impl Core {
         ensures bad { (result ≡ Err StartFault.BadConfig) ↔ ¬ IsValidConfig config }
         ensures started { IfOk result (λ core. (core.answer ≡ []) × (core.outbox ≡ []) ×
             StandsFor core.state (start_of config)) }
-        ensures headline { IfOk result (λ core. HasHistory config [] [] (start_of config) core.state) }
+        ensures headline { IfOk result (λ core. HasHistory (start_of config) [] [] (start_of config) core.state) }
         ensures sound { OnOk result (IsValidConfig config) }
     {
         let engine = Engine::new(alloc, config)?;
@@ -98,6 +98,30 @@ impl Core {
                 kept,
                 counts: Counts::new(),
             },
+            reply,
+            answer,
+            outbox: Outbox::new(),
+        })
+    }
+
+    /// Returns the state that the core keeps between events.
+    pub fn state(&self) -> &CoreState
+        ensures value { result.now ≡ self.now.state }
+    {
+        &self.state
+    }
+
+    /// Creates a core that continues from a state.
+    ///
+    /// Fails only if an allocation fails.
+    pub fn from_state(alloc: Global, state: CoreState) -> Result<Self, AllocError>
+        ensures state { IfOk result (λ core. core.state ≡ state) }
+        ensures nothing { IfOk result (λ core. (core.answer ≡ []) × (core.outbox ≡ [])) }
+    {
+        let reply = Reply::new(alloc)?;
+        let answer = Bytes::new(alloc, ANSWER_LIMIT)?;
+        Ok(Core {
+            state,
             reply,
             answer,
             outbox: Outbox::new(),

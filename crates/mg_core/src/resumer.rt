@@ -1,23 +1,23 @@
 ghost use Rattle.std.specs.Prelude.{◌≡◌, ℕ, ◌+◌, ◌*◌, ◌≤◌, ◌<◌, ◌^◌, ◌↔◌, ◌++◌, [], false, true, codes, drop, Err, length, IfErr, IfOk, OnErr, OnOk};
 ghost use Rattle.memchr.specs.Find.{IsFirstByte, is_byte};
-ghost use Rattle.mg_engine.specs.Config.{IsValidConfig};
 ghost use Rattle.mg_core.specs.aids.Resuming.{AllResumed, BytesResumed, EndedResumed, HasFollowed, IsAfterTicks, KeepsLines, LastResumed, TicksTaken};
 ghost use Rattle.mg_core.specs.declared.script_runner.TheConstants.{PARTIAL_LIMIT};
 ghost use Rattle.mg_core.specs.Follow.{HasRun};
+ghost use Rattle.mg_core.specs.World.{World};
+ghost use Rattle.mg_core.specs.aids.Stands.{StandsFor};
 ghost use Rattle.mg_core.specs.aids.Following.{IsFollowedUntil};
-ghost use Rattle.mg_engine.specs.declared.config.Config.{Config};
 
 use crate::fault::{LineFault, ScriptFault};
 use crate::follower::Follower;
 use crate::line_resumer::LineResumer;
+use crate::machine::Core;
 use crate::script_runner::PARTIAL_LIMIT;
 use crate::stopped::Stopped;
 use crate::watcher::Watcher;
 use memchr::memchr;
-use mg_engine::{Config, StartFault};
 use mg_lines::{READ_SIZE, read_some, without_return};
 use mg_reply::Bytes;
-use std::alloc::Global;
+use std::alloc::{AllocError, Global};
 use std::io::Read;
 
 /// Returns the index of the first line feed, or `None` if there is none. Many lines of a recording are `tick`, so a
@@ -71,19 +71,17 @@ pub struct Resumer {
 }
 
 impl Resumer {
-    /// Creates a runner with a new gateway, at the start of a script.
-    pub fn new(alloc: Global, config: Config) -> Result<Self, StartFault>
-        ensures bad { (result ≡ Err StartFault.BadConfig) ↔ ¬ IsValidConfig config }
-        ensures sound { OnOk result (IsValidConfig config) }
-        ensures start { IfOk result (λ s. HasRun config [] s.runner.core.state) }
+    /// Creates a runner with a gateway in this state, at the start of a script. Fails only if an allocation fails.
+    pub fn new(alloc: Global, core: Core) -> Result<Self, AllocError>
+        ensures start { IfOk result (λ s. (base : World) → StandsFor core.state base →
+            HasRun base [] s.runner.core.state) }
         ensures ticks { IfOk result (λ s. s.runner.ticks ≡ 0) }
         ensures counts { IfOk result (λ s. s.runner.counts ≡ false) }
         ensures lines { IfOk result (λ s. s.lines ≡ 0) }
         ensures partial { IfOk result (λ s. s.partial.text ≡ []) }
     {
-        let runner = LineResumer::new(alloc, config)?;
         Ok(Resumer {
-            runner,
+            runner: LineResumer::new(core),
             lines: 0,
             partial: Bytes::new(alloc, PARTIAL_LIMIT)?,
         })
@@ -115,12 +113,12 @@ impl Resumer {
         requires few { self.old.lines + 1 < 2 ^ 64 }
         ensures partial { OnOk result (self.new.partial.text ≡ []) }
         ensures lines { OnOk result (self.new.lines ≡ self.old.lines + 1) }
-        ensures value { (start : F) (config : Config) → EndedResumed F.may_stop self.old.lines
+        ensures value { (start : F) (base : World) → EndedResumed F.may_stop self.old.lines
             (self.old.partial.text ++ part.now)
-            (KeepsLines config self.old.runner.core.state self.old.runner.counts self.old.runner.ticks
-            (HasFollowed F.follows start follower.old config))
-            (KeepsLines config self.new.runner.core.state self.new.runner.counts self.new.runner.ticks
-            (HasFollowed F.follows start follower.new config)) result }
+            (KeepsLines base self.old.runner.core.state self.old.runner.counts self.old.runner.ticks
+            (HasFollowed F.follows start follower.old base))
+            (KeepsLines base self.new.runner.core.state self.new.runner.counts self.new.runner.ticks
+            (HasFollowed F.follows start follower.new base)) result }
     {
         if is_tick(&self.partial, part) {
             self.runner.take_ticks(1, follower)?;
@@ -147,12 +145,12 @@ impl Resumer {
         ensures partial { self.new.partial ≡ self.old.partial }
         ensures lines { IfOk result (λ rest. self.new.lines + length rest.now ≤ self.old.lines + length text.now) }
         ensures short { IfOk result (λ rest. length rest.now ≤ length text.now) }
-        ensures value { (start : F) (config : Config) → IfOk result (λ rest. TicksTaken self.old.lines self.new.lines
+        ensures value { (start : F) (base : World) → IfOk result (λ rest. TicksTaken self.old.lines self.new.lines
             text.now rest.now
-            (KeepsLines config self.old.runner.core.state self.old.runner.counts self.old.runner.ticks
-            (HasFollowed F.follows start follower.old config))
-            (KeepsLines config self.new.runner.core.state self.new.runner.counts self.new.runner.ticks
-            (HasFollowed F.follows start follower.new config))) }
+            (KeepsLines base self.old.runner.core.state self.old.runner.counts self.old.runner.ticks
+            (HasFollowed F.follows start follower.old base))
+            (KeepsLines base self.new.runner.core.state self.new.runner.counts self.new.runner.ticks
+            (HasFollowed F.follows start follower.new base))) }
         ensures stops { OnErr result (F.may_stop ≡ true) }
     {
         let count = leading_ticks(text);
@@ -171,12 +169,12 @@ impl Resumer {
     ) -> Result<(), LineFault>
         requires few { self.old.lines + length bytes.now + 1 < 2 ^ 64 }
         ensures lines { OnOk result (self.new.lines ≤ self.old.lines + length bytes.now) }
-        ensures value { (start : F) (config : Config) → BytesResumed F.may_stop self.old.lines self.new.lines
+        ensures value { (start : F) (base : World) → BytesResumed F.may_stop self.old.lines self.new.lines
             self.old.partial.text bytes.now self.new.partial.text
-            (KeepsLines config self.old.runner.core.state self.old.runner.counts self.old.runner.ticks
-            (HasFollowed F.follows start follower.old config))
-            (KeepsLines config self.new.runner.core.state self.new.runner.counts self.new.runner.ticks
-            (HasFollowed F.follows start follower.new config)) result }
+            (KeepsLines base self.old.runner.core.state self.old.runner.counts self.old.runner.ticks
+            (HasFollowed F.follows start follower.old base))
+            (KeepsLines base self.new.runner.core.state self.new.runner.counts self.new.runner.ticks
+            (HasFollowed F.follows start follower.new base)) result }
     {
         let mut rest = bytes;
         while let Some(end) = line_end(rest) {
@@ -191,11 +189,11 @@ impl Resumer {
     /// Runs the last line if it has no line feed.
     fn take_last<F: Follower>(&mut self, alloc: Global, follower: &mut F) -> Result<(), LineFault>
         requires few { self.old.lines + 1 < 2 ^ 64 }
-        ensures value { (start : F) (config : Config) → LastResumed F.may_stop self.old.lines self.old.partial.text
-            (KeepsLines config self.old.runner.core.state self.old.runner.counts self.old.runner.ticks
-            (HasFollowed F.follows start follower.old config))
-            (KeepsLines config self.new.runner.core.state self.new.runner.counts self.new.runner.ticks
-            (HasFollowed F.follows start follower.new config)) result }
+        ensures value { (start : F) (base : World) → LastResumed F.may_stop self.old.lines self.old.partial.text
+            (KeepsLines base self.old.runner.core.state self.old.runner.counts self.old.runner.ticks
+            (HasFollowed F.follows start follower.old base))
+            (KeepsLines base self.new.runner.core.state self.new.runner.counts self.new.runner.ticks
+            (HasFollowed F.follows start follower.new base)) result }
     {
         let line = self.partial.as_slice();
         if line.is_empty() {
@@ -209,11 +207,11 @@ impl Resumer {
     /// Runs the last line if it has no line feed, and the last ticks.
     fn finish<F: Follower>(&mut self, alloc: Global, follower: &mut F) -> Result<(), LineFault>
         requires few { self.old.lines + 1 < 2 ^ 64 }
-        ensures value { (start : F) (config : Config) → LastResumed F.may_stop self.old.lines self.old.partial.text
-            (KeepsLines config self.old.runner.core.state self.old.runner.counts self.old.runner.ticks
-            (HasFollowed F.follows start follower.old config))
-            (KeepsLines config self.new.runner.core.state self.new.runner.counts 0
-            (HasFollowed F.follows start follower.new config)) result }
+        ensures value { (start : F) (base : World) → LastResumed F.may_stop self.old.lines self.old.partial.text
+            (KeepsLines base self.old.runner.core.state self.old.runner.counts self.old.runner.ticks
+            (HasFollowed F.follows start follower.old base))
+            (KeepsLines base self.new.runner.core.state self.new.runner.counts 0
+            (HasFollowed F.follows start follower.new base)) result }
     {
         self.take_last(alloc, follower)?;
         self.runner.run_ticks(follower)?;
@@ -231,9 +229,9 @@ impl Resumer {
         requires ticks { self.old.runner.ticks ≡ 0 }
         requires counts { self.old.runner.counts ≡ false }
         requires partial { self.old.partial.text ≡ [] }
-        ensures value { (config : Config) → HasRun config [] self.old.runner.core.state →
-            AllResumed F.may_stop config (R.remaining reader.old) (R.remaining reader.new)
-            self.new.runner.core.state (HasFollowed F.follows follower.old follower.new config) result }
+        ensures value { (base : World) → HasRun base [] self.old.runner.core.state →
+            AllResumed F.may_stop base (R.remaining reader.old) (R.remaining reader.new)
+            self.new.runner.core.state (HasFollowed F.follows follower.old follower.new base) result }
     {
         let mut buffer = [0; READ_SIZE];
         for _ in 0..u32::MAX {
@@ -258,9 +256,9 @@ impl Resumer {
         requires ticks { self.old.runner.ticks ≡ 0 }
         requires counts { self.old.runner.counts ≡ false }
         requires partial { self.old.partial.text ≡ [] }
-        ensures value { (config : Config) → HasRun config [] self.old.runner.core.state → OnOk result
-            (IsFollowedUntil config (R.remaining reader.old) (R.remaining reader.new) self.new.runner.core.state F.done
-            (λ f. HasFollowed F.follows follower.old f config) follower.new) }
+        ensures value { (base : World) → HasRun base [] self.old.runner.core.state → OnOk result
+            (IsFollowedUntil base (R.remaining reader.old) (R.remaining reader.new) self.new.runner.core.state F.done
+            (λ f. HasFollowed F.follows follower.old f base) follower.new) }
     {
         let mut buffer = [0; READ_SIZE];
         for _ in 0..u32::MAX {

@@ -3,15 +3,16 @@
 ghost use Rattle.std.specs.Prelude.{◌≡◌, List};
 ghost use Rattle.mg_core.specs.declared.event.Event.{Event};
 ghost use Rattle.mg_commands.specs.Theorems.{RefusedNamesChangeNothing, RefusedCommandsChangeNothing, RefusedActionsChangeNothing, RefusedTopologiesChangeNothing, OthersAreTried, RefusedRequestsChangeNothing};
+ghost use Rattle.mg_core.specs.Base.{BasesStayBases, StartsAreBases};
 ghost use Rattle.mg_core.specs.Apart.{UnheardChangesNothing, UnheardInHistories, UnheardInScripts};
 ghost use Rattle.mg_core.specs.Counted.{CountsAreTicks, OtherScriptsStay};
 ghost use Rattle.mg_core.specs.Counting.{EventsAreCounted};
 ghost use Rattle.mg_core.specs.ExceptReceived.{RtpChangesSpeechOnly, RtpChangesSpeechOnlyInHistories};
 ghost use Rattle.mg_core.specs.Headline.{EventsDetermineOutcome, GatewayDeterminesFuture, WorldsAreConsistent};
-ghost use Rattle.mg_core.specs.Journal.{AgreementHasSameFlows, AgreementHasSameReports, HistoriesHaveSameFlows, HistoriesHaveSameReports};
+ghost use Rattle.mg_core.specs.Journal.{AgreementHasSameFlows, AgreementHasSameReports};
 ghost use Rattle.mg_engine.specs.Isolation.{NoneHearsItself, OwnSpeechChangesNoPacket, IsolatedAreNotHeard, UnheardChangesNoPacket, PayloadsAreMixes};
 ghost use Rattle.mg_core.specs.Note.{NotesHaveEvents};
-ghost use Rattle.mg_core.specs.Interleaving.{PortOrderIsIrrelevant, PortOrderInHistories, PortOrderInScripts};
+ghost use Rattle.mg_core.specs.Interleaving.{PortOrderIsIrrelevant, PortOrderInScripts};
 ghost use Rattle.mg_core.specs.Parsed.{IsReadingOf, ReadingsAreUnique};
 ghost use Rattle.mg_core.specs.declared.parsed.Parsed.{Parsed};
 ghost use Rattle.mg_core.specs.Recording.{RecordingsAreRead, CutRecordingsAreRead};
@@ -100,6 +101,18 @@ pub fn replies_persist()
     mg_kept::theorems::replies_stay_while_few_are_newer();
 }
 
+/// A new gateway's world is a base, and events lead from a base to a base with the same configuration.
+///
+/// A base is a world with which a gateway may begin.
+pub fn bases_stay_bases()
+    ensures starts { StartsAreBases }
+    ensures theorem { BasesStayBases }
+{
+    mg_engine::theorems::worlds_are_consistent();
+    mg_commands::theorems::requests_are_consistent();
+    mg_kept::theorems::replies_stay_while_few_are_newer();
+}
+
 /// The terminations and contexts are consistent after any sequence of events.
 ///
 /// Terminations and contexts are within the limits. No two terminations have the same number or slot, and no two
@@ -108,8 +121,7 @@ pub fn replies_persist()
 pub fn worlds_are_consistent()
     ensures theorem { WorldsAreConsistent }
 {
-    mg_engine::theorems::worlds_are_consistent();
-    mg_commands::theorems::requests_are_consistent();
+    bases_stay_bases();
 }
 
 /// Between two control datagrams or ticks, the order of RTP datagrams at different ports does not matter.
@@ -119,10 +131,10 @@ pub fn worlds_are_consistent()
 /// datagrams for both lists, and ends in the same world.
 pub fn port_order_is_irrelevant()
     ensures events { PortOrderIsIrrelevant }
-    ensures histories { PortOrderInHistories }
     ensures scripts { PortOrderInScripts }
 {
     outcomes_are_unique();
+    bases_stay_bases();
     mg_engine::theorems::port_order_is_irrelevant();
     mg_engine::theorems::worlds_are_consistent();
     mg_commands::theorems::requests_are_consistent();
@@ -131,8 +143,8 @@ pub fn port_order_is_irrelevant()
 /// In each tick, a listener's packet does not depend on what arrives from terminations that the listener does not hear in
 /// that tick.
 ///
-/// Suppose two gateways start with the same configuration and receive the same events, except for RTP datagrams at the
-/// ports of some terminations. In the next tick, both gateways send the same bytes to every listener that hears none of
+/// Suppose two gateways begin with the same world and receive the same events, except for RTP datagrams at the ports of
+/// some terminations. In the next tick, both gateways send the same bytes to every listener that hears none of
 /// those terminations in that tick. What the listener heard earlier makes no difference.
 pub fn unheard_changes_nothing()
     ensures lists { UnheardChangesNothing }
@@ -147,32 +159,31 @@ pub fn unheard_changes_nothing()
 
 /// RTP datagrams change only speech.
 ///
-/// Suppose two gateways start with the same configuration and receive the same control datagrams and ticks, but only
-/// one of them receives RTP datagrams. Then both gateways have the same terminations, contexts and topology, and keep
-/// replies to the same requests. They can differ only in play lists (but not in their depths), current frames, the
-/// texts of kept replies, and the counts of RTP datagrams, received packets and concealed frames.
+/// Suppose two gateways begin with the same base and receive the same control datagrams and ticks, but only one of
+/// them receives RTP datagrams, and control datagrams that are longer than any message. Then both gateways have the same
+/// terminations, contexts and topology, and keep replies to the same requests. They can differ only in play lists (but
+/// not in their depths), current frames, the texts of kept replies, and the counts of datagrams, received packets and
+/// concealed frames. Their bases may also differ in these.
 pub fn rtp_changes_speech_only()
     ensures worlds { RtpChangesSpeechOnly }
     ensures histories { RtpChangesSpeechOnlyInHistories }
 {
     mg_text::theorems::one_reading(b"");
     mg_engine::theorems::agreement_lasts();
-    mg_engine::theorems::worlds_are_consistent();
     mg_commands::theorems::requests_keep_agreement();
-    mg_commands::theorems::requests_are_consistent();
+    bases_stay_bases();
 }
 
-/// RTP datagrams don't change any flow. So a configuration, control datagrams and ticks alone determine who could hear
-/// whom, and when.
+/// RTP datagrams don't change any flow. So the world at the beginning, control datagrams and ticks alone determine who
+/// could hear whom, and when.
 ///
-/// Suppose two gateways start with the same configuration and receive the same control datagrams and ticks, but only
-/// one of them receives RTP datagrams. Then the same flows are open in both gateways, and both report the same changes.
-/// So a journal can leave out RTP datagrams.
+/// In two worlds that agree except for what was received, the same flows are open. Suppose two gateways begin with such
+/// worlds and receive the same control datagrams and ticks, but only one of them receives RTP datagrams, and control
+/// datagrams that are longer than any message. Then both report the same changes. So a journal can leave these
+/// datagrams out.
 pub fn rtp_changes_no_flow()
     ensures flows { AgreementHasSameFlows }
-    ensures flows_in_histories { HistoriesHaveSameFlows }
     ensures reports { AgreementHasSameReports }
-    ensures reports_in_histories { HistoriesHaveSameReports }
 {
     rtp_changes_speech_only();
     mg_text::theorems::one_reading(b"");
@@ -189,8 +200,8 @@ pub fn changes_are_reported()
     ensures exact { OnlyChangesAreReported }
 {}
 
-/// The counts equal the numbers of control datagrams, RTP datagrams and ticks. The counts of outcomes add up to the
-/// number of RTP datagrams.
+/// The counts grow by the numbers of control datagrams, RTP datagrams and ticks. A new gateway's counts are 0. The sum
+/// of the counts of outcomes grows by the number of RTP datagrams.
 pub fn events_are_counted()
     ensures theorem { EventsAreCounted }
 {}
@@ -220,9 +231,9 @@ pub fn notes_have_events()
 ///
 /// The clauses `headline` and `packets` of a [`Core`](crate::Core) compare what it returns and sends with what is
 /// recomputed from the resulting world. After any sequence of events, the two are equal. This theorem states the rest.
-/// The configuration and the events determine that world and the content of each packet. Packets are sent in order of
-/// termination number. If a command is refused for a termination, the gateway stays the same, and so do later packets.
-/// No termination hears itself, and isolated participants do not hear each other.
+/// The world at the beginning and the events determine that world and the content of each packet. Packets are sent in
+/// order of termination number. If a command is refused for a termination, the gateway stays the same, and so do later
+/// packets. No termination hears itself, and isolated participants do not hear each other.
 pub fn headline()
     ensures world { EventsDetermineOutcome }
     ensures packets { PayloadsAreMixes }
@@ -238,6 +249,7 @@ pub fn headline()
     ensures isolated { IsolatedAreNotHeard }
     ensures unheard { UnheardChangesNoPacket }
     ensures order { WorldsAreConsistent }
+    ensures starts { StartsAreBases }
 {
     outcomes_are_unique();
     mg_engine::theorems::payloads_are_mixes();
@@ -245,5 +257,6 @@ pub fn headline()
     refused_commands_change_no_packet();
     mg_engine::theorems::none_hears_itself();
     mg_engine::theorems::isolated_are_not_heard();
+    bases_stay_bases();
     worlds_are_consistent();
 }

@@ -8,11 +8,11 @@ use Rattle.mg_core.specs.declared.event.Event.TheVariants.{Control, Media, Tick}
 use Rattle.mg_core.specs.Follow.{ticks_of}
 use Rattle.mg_core.specs.Note.{Note, Comment, Happened}
 use Rattle.mg_fence.specs.Number.{HasNumber}
-use Rattle.mg_fence.specs.Reached.{Reaches, number_set}
+use Rattle.mg_fence.specs.Reached.{Reaches, after_comment, number_set}
 
 pub reaches_both : (a b c : ℕ) (p q : List Note) → Reaches a p b → Reaches b q c → Reaches a (p ++ q) c
 reaches_both a b c [] q h k = subst (λ (m : ℕ). Reaches m q c) h k
-reaches_both a b c (Comment line ∷ p) q h k = reaches_both (unwrap_or (number_set line) a) b c p q h k
+reaches_both a b c (Comment line ∷ p) q h k = reaches_both (after_comment a line) b c p q h k
 reaches_both a b c (Happened (Control source bytes) ∷ p) q (number, has, h) k =
     (number, has, reaches_both (max a (unwrap_or number 0)) b c p q h k)
 reaches_both a b c (Happened (Media port source bytes) ∷ p) q h k = reaches_both a b c p q h k
@@ -31,10 +31,9 @@ set_read line mark text is begins rest =
     ap number_of same
     ∙ sym (ap (λ (b : Bool). cond b (number_of (drop 8 line)) None) first)
 
--- After one more comment, the notes reach the number that is set in the comment. A comment that sets no number changes
--- nothing.
+-- After one more comment, the notes reach the number after this comment.
 pub reaches_comment : (notes : List Note) (line : List ℕ) (old new : ℕ) → Reaches 0 notes old →
-    new ≡ unwrap_or (number_set line) old → Reaches 0 (notes ++ Comment line ∷ []) new
+    new ≡ after_comment old line → Reaches 0 (notes ++ Comment line ∷ []) new
 reaches_comment notes line old new h is = reaches_both 0 old new notes (Comment line ∷ []) h is
 
 pub reaches_message : (result : Result (Unit {0}) Stopped) (notes : List Note) (source : Peer) (bytes : List ℕ) (old new : ℕ) →

@@ -12,11 +12,20 @@ use Rattle.mg_fence.specs.Number.{HasNumber}
 abbrev pub number_set : List ℕ → Option ℕ
 number_set line = if bytes_eq (take 8 line) (codes "# fence ") then number_of (drop 8 line) else None
 
+-- The number in a comment such as `# reached 17`, with which a renewed journal states the number that it had reached.
+abbrev pub number_reached : List ℕ → Option ℕ
+number_reached line =
+    if bytes_eq (take 10 line) (codes "# reached ") then number_of (drop 10 line) else None
+
+-- The number after a comment. An operator's number replaces the number, and a number that was reached raises it.
+abbrev pub after_comment : (from : ℕ) → List ℕ → ℕ
+after_comment from line = unwrap_or (number_set line) (max from (unwrap_or (number_reached line) 0))
+
 -- The number that these notes reach, starting from the number `from`. A message raises the number to its own number, if
--- that is higher. A comment in which an operator set the fence replaces the number.
+-- that is higher.
 abbrev pub Reaches : (from : ℕ) → List Note → (last : ℕ) → Type 0
 Reaches from [] last = last ≡ from
-Reaches from (Comment line ∷ notes) last = Reaches (unwrap_or (number_set line) from) notes last
+Reaches from (Comment line ∷ notes) last = Reaches (after_comment from line) notes last
 Reaches from (Happened (Control source bytes) ∷ notes) last =
     (n : Option ℕ) × HasNumber bytes n × Reaches (max from (unwrap_or n 0)) notes last
 Reaches from (note ∷ notes) last = Reaches from notes last

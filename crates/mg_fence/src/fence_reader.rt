@@ -1,6 +1,6 @@
 ghost use Rattle.std.specs.Prelude.{◌≡◌, ℕ, Option, OnOk, max, unwrap_or};
 ghost use Rattle.mg_fence.specs.Number.{HasNumber};
-ghost use Rattle.mg_fence.specs.Reached.{number_set};
+ghost use Rattle.mg_fence.specs.Reached.{number_reached, number_set};
 
 use crate::number::number_in;
 use mg_core::{Core, Event, Follower, Stopped};
@@ -8,7 +8,8 @@ use mg_words::number_of;
 use std::alloc::Global;
 
 /// Reads the number that a journal has reached: the number to which an operator set the fence last (0 if none did), or
-/// a higher number of a message since then. Stops if memory runs out.
+/// a higher number since then. Such a number is that of a message, or one that a comment says was reached. Stops if
+/// memory runs out.
 #[derive(Drop)]
 pub struct FenceReader {
     alloc: Global,
@@ -20,6 +21,14 @@ fn number_set(line: &[u8]) -> Option<u32>
     ensures value { result ≡ number_set line.now }
 {
     number_of(line.strip_prefix(b"# fence ".as_slice())?)
+}
+
+/// Returns the number in a comment such as `# reached 17`, with which a renewed journal states the number that it had
+/// reached.
+fn number_reached(line: &[u8]) -> Option<u32>
+    ensures value { result ≡ number_reached line.now }
+{
+    number_of(line.strip_prefix(b"# reached ".as_slice())?)
 }
 
 impl FenceReader {
@@ -50,10 +59,11 @@ impl Follower for FenceReader {
 
     ghost may_stop = { true };
 
-    ghost follows = { λ start f config notes. Reaches 0 notes f.reached };
+    ghost follows = { λ start f base notes. Reaches 0 notes f.reached };
 
     fn comment(&mut self, _number: u64, line: &[u8]) -> Result<(), Stopped> {
-        self.reached = number_set(line).unwrap_or(self.reached);
+        let raised = self.reached.max(number_reached(line).unwrap_or(0));
+        self.reached = number_set(line).unwrap_or(raised);
         Ok(())
     }
 

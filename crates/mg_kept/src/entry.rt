@@ -73,6 +73,20 @@ impl Entry {
         is_named && is_same_name(self.sender.as_slice(), sender)
     }
 
+    /// Returns the name of the sender.
+    pub(crate) fn sender(&self) -> &[u8]
+        ensures value { result.now ≡ self.now.sender }
+    {
+        self.sender.as_slice()
+    }
+
+    /// Returns the number of the request.
+    pub(crate) fn number(&self) -> u32
+        ensures value { result ≡ self.now.number }
+    {
+        self.number
+    }
+
     /// Returns the text of the reply.
     pub(crate) fn text(&self) -> &[u8]
         ensures value { result.now ≡ self.now.text }

@@ -1,6 +1,7 @@
 ghost use Rattle.std.specs.Prelude.{◌≡◌, ◌+◌, ◌-◌, ◌<◌, ◌≤◌, [], length, take, drop, Some, None, MatchOption, IfSome, IfOk};
+ghost use Rattle.std.specs.List.{slice_get};
 ghost use Rattle.mg_words.specs.Limits.{kept_limit};
-ghost use Rattle.mg_kept.specs.KeptReplies.{AreKept, kept_text, with_reply, without_range};
+ghost use Rattle.mg_kept.specs.KeptReplies.{AreKept, KeptReply, kept_text, with_reply, without_range};
 
 use crate::entry::Entry;
 use mg_words::{KEPT_REPLIES, REPLY_LIMIT, SENDER_LIMIT};
@@ -51,6 +52,38 @@ impl Kept {
             }
         }
         None
+    }
+
+    /// Returns the number of kept replies.
+    pub fn len(&self) -> usize
+        ensures value { result ≡ length self.now }
+        ensures few { result ≤ KEPT_REPLIES }
+    {
+        self.len
+    }
+
+    /// Returns the sender of a kept reply's request. Replies are counted from 0, oldest first.
+    pub fn sender(&self, place: usize) -> &[u8]
+        requires there { place < length self.now }
+        ensures value { (reply : KeptReply) → slice_get self.now place ≡ Some reply → result.now ≡ reply.sender }
+    {
+        self.places[place].sender()
+    }
+
+    /// Returns the number of a kept reply's request.
+    pub fn number(&self, place: usize) -> u32
+        requires there { place < length self.now }
+        ensures value { (reply : KeptReply) → slice_get self.now place ≡ Some reply → result ≡ reply.number }
+    {
+        self.places[place].number()
+    }
+
+    /// Returns the text of a kept reply.
+    pub fn text(&self, place: usize) -> &[u8]
+        requires there { place < length self.now }
+        ensures value { (reply : KeptReply) → slice_get self.now place ≡ Some reply → result.now ≡ reply.text }
+    {
+        self.places[place].text()
     }
 
     /// Keeps a reply as the newest reply. Its request must not have a kept reply yet.

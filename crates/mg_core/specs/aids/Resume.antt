@@ -1,6 +1,5 @@
 -- Resuming a gateway from a script.
 use Rattle.std.specs.Prelude.{◌≡◌, ℕ, ◌+◌, Bool, true, false, List, [], ◌∷◌, ◌++◌, length, Option, Some, None}
-use Rattle.mg_engine.specs.declared.config.Config.{Config}
 use Rattle.mg_lines.specs.Lines.{lines_of}
 use Rattle.mg_core.specs.declared.event.Event.{Event}
 use Rattle.mg_core.specs.declared.state.CoreState.{CoreState}
@@ -11,16 +10,16 @@ use Rattle.mg_core.specs.Script.{events_of}
 use Rattle.mg_core.specs.Step.{Sent}
 use Rattle.mg_core.specs.World.{World}
 
--- The input was read to its end. Its text is a script of some events, and the state is that of a gateway that was
--- started with this configuration, and at which these events arrived.
-pub record IsResumed (config : Config) (input rest : Option (List ℕ)) (state : CoreState) : Type 0 where
+-- The input was read to its end. Its text is a script of some events, and the state is that of a gateway that began
+-- with the world `base`, and at which these events arrived.
+pub record IsResumed (base : World) (input rest : Option (List ℕ)) (state : CoreState) : Type 0 where
   pub script : List ℕ
   pub read : HasRead input rest script true
   pub events : List Event
   pub are : events_of (journal_lines true script) ≡ Some events
   pub sent : List Sent
   pub world : World
-  pub history : HasHistory config events sent world state
+  pub history : HasHistory base events sent world state
 
 -- This line is bad after these lines.
 abbrev pub IsBadAfter : List (List ℕ) → List ℕ → Type 0

@@ -2,7 +2,6 @@
 use Rattle.std.specs.Prelude.{◌≡◌, ℕ, ◌+◌, Bool, true, false, List, [], ◌∷◌, ◌++◌, length}
 use Rattle.std.specs.Prelude.{Option, Some, None, Result, Ok, Err, codes, replicate, if◌then◌else◌}
 use Rattle.std.specs.List.{concat, list_any}
-use Rattle.mg_engine.specs.declared.config.Config.{Config}
 use Rattle.mg_lines.specs.Lines.{lines_after, without_return}
 use Rattle.mg_core.specs.declared.event.Event.{Event}
 use Rattle.mg_core.specs.declared.fault.LineFault.{LineFault}
@@ -15,30 +14,31 @@ use Rattle.mg_core.specs.Follow.{HasRun, IsFollowed, ticks_of}
 use Rattle.mg_core.specs.Note.{Note, Happened, notes_of}
 use Rattle.mg_core.specs.aids.Resume.{FindsBadLine, IsBadAfter}
 use Rattle.mg_core.specs.Script.{event_of}
+use Rattle.mg_core.specs.World.{World}
 
 -- A follower has followed these notes, if it was ready to follow a gateway when it started.
-abbrev pub HasFollowed : {F : Type 0} → (F → F → Config → List Note → Type 0) → F → F → Config
+abbrev pub HasFollowed : {F : Type 0} → (F → F → World → List Note → Type 0) → F → F → World
     → List Note → Type 0
-HasFollowed follows start now config notes =
-    follows start start config [] → follows start now config notes
+HasFollowed follows start now base notes =
+    follows start start base [] → follows start now base notes
 
 -- A gateway has run these notes, and a follower has followed them, except for the ticks at their end. This many ticks
 -- are still pending.
-pub record KeepsUp (config : Config) (state : CoreState) (ticks : ℕ) (Follows : List Note → Type 0)
+pub record KeepsUp (base : World) (state : CoreState) (ticks : ℕ) (Follows : List Note → Type 0)
     (notes : List Note) : Type 0 where
   pub past : List Note
   pub parts : notes ≡ past ++ ticks_of ticks
-  pub run : HasRun config past state
+  pub run : HasRun base past state
   pub follows : Follows past
 
 -- These lines were read: a gateway has run their notes, and a follower has followed them, except for the ticks at their
 -- end. `counts` says whether ticks are counted after the lines.
-pub record KeepsLines (config : Config) (state : CoreState) (counts : Bool) (ticks : ℕ)
+pub record KeepsLines (base : World) (state : CoreState) (counts : Bool) (ticks : ℕ)
     (Follows : List Note → Type 0) (lines : List (List ℕ)) : Type 0 where
   pub notes : List Note
   pub are : notes_of (expanded false lines) ≡ Some notes
   pub counted : counts ≡ list_any is_mark lines
-  pub keeps : KeepsUp config state ticks Follows notes
+  pub keeps : KeepsUp base state ticks Follows notes
 
 -- The notes of these lines are known, so none of them is bad.
 abbrev pub AreGood : List (List ℕ) → Type 0
@@ -158,12 +158,12 @@ LastResumed may_stop count partial Old New result =
 
 -- The whole script was run, or the first bad line was found. Otherwise reading failed, memory ran out, or a follower
 -- that may stop has stopped.
-abbrev pub AllResumed : Bool → Config → (input rest : Option (List ℕ)) → CoreState
+abbrev pub AllResumed : Bool → World → (input rest : Option (List ℕ)) → CoreState
     → (Follows : List Note → Type 0) → Result (Unit {0}) ScriptFault → Type 0
-AllResumed may_stop config input rest state Follows (Ok done) =
-    IsFollowed config input rest state Follows
-AllResumed may_stop config input rest state Follows (Err (scripts.Bad number)) =
+AllResumed may_stop base input rest state Follows (Ok done) =
+    IsFollowed base input rest state Follows
+AllResumed may_stop base input rest state Follows (Err (scripts.Bad number)) =
     FindsBadLine input rest number
-AllResumed may_stop config input rest state Follows (Err scripts.Read) = Unit {0}
-AllResumed may_stop config input rest state Follows (Err scripts.Write) = may_stop ≡ true
-AllResumed may_stop config input rest state Follows (Err scripts.NoMemory) = Unit {0}
+AllResumed may_stop base input rest state Follows (Err scripts.Read) = Unit {0}
+AllResumed may_stop base input rest state Follows (Err scripts.Write) = may_stop ≡ true
+AllResumed may_stop base input rest state Follows (Err scripts.NoMemory) = Unit {0}

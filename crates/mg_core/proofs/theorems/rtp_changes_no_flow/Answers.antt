@@ -1,7 +1,6 @@
-use Rattle.std.proofs.Common.{arith}
 use Rattle.mg_core.proofs.ApartLemmas.{same_event}
 use Rattle.mg_core.proofs.ConsistentLemmas.{step_keeps}
-use Rattle.mg_core.proofs.JournalLemmas.{agreement_has_same_flows, agreement_has_same_reports, histories_have_same_flows, histories_have_same_reports}
+use Rattle.mg_core.proofs.JournalLemmas.{agreement_has_same_flows, agreement_has_same_reports}
 use Rattle.mg_core.proofs.theorems.rtp_changes_no_flow.Goals as goal
 
 pub returns : goal.returns
@@ -13,8 +12,5 @@ returns c =
     let keeps = step_keeps c.requests_are_consistent.ensures.theorem consistent.media in
     record {
       flows = agreement_has_same_flows;
-      flows_in_histories = histories_have_same_flows c.rtp_changes_speech_only.ensures.histories;
       reports = agreement_has_same_reports event keeps;
-      reports_in_histories = histories_have_same_reports event keeps
-          (λ config start. consistent.start config start.0 (omega (arith, start.1)));
     }

@@ -1,5 +1,5 @@
 use Rattle.std.proofs.Common.{sym, subst}
-use Rattle.mg_engine.specs.Tick.{after_ticks, concealed_in_ticks}
+use Rattle.mg_engine.specs.aids.Ticks.{after_ticks, concealed_in_ticks}
 use Rattle.mg_core.specs.aids.CoreView.{CoreView}
 use Rattle.mg_core.specs.World.{World}
 use Rattle.mg_core.specs.aids.Stands.{StandsFor}

@@ -13,11 +13,11 @@ returns-in_err-take_last g c =
     let new = c.take_last.new.self.runner in
     let last = lines_after true c.args.self.now.partial.text [] in
     rw (p.1, p.2) (record {
-      value = λ start config.
-          let Old = KeepsLines config old.core.state old.counts old.ticks (HasFollowed follows start c.args.follower.now config) in
-          let Follows = HasFollowed follows start c.take_last.new.follower config in
-          resumes_err g.F.Follower.may_stop (Adds Old (KeepsLines config new.core.state new.counts new.ticks Follows) last)
-          (Adds Old (KeepsLines config new.core.state new.counts 0 Follows) last)
+      value = λ start base.
+          let Old = KeepsLines base old.core.state old.counts old.ticks (HasFollowed follows start c.args.follower.now base) in
+          let Follows = HasFollowed follows start c.take_last.new.follower base in
+          resumes_err g.F.Follower.may_stop (Adds Old (KeepsLines base new.core.state new.counts new.ticks Follows) last)
+          (Adds Old (KeepsLines base new.core.state new.counts 0 Follows) last)
           (StartsBad Old c.args.self.now.lines last) (StartsBad Old c.args.self.now.lines last)
-          c.in_err-take_last.field-0.0 (λ k bad. bad) (c.in_err-take_last.ensures.value start config);
+          c.in_err-take_last.field-0.0 (λ k bad. bad) (c.in_err-take_last.ensures.value start base);
     })

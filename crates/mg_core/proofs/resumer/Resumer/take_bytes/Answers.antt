@@ -8,9 +8,9 @@ use Rattle.mg_core.proofs.resumer.Resumer.take_bytes.Goals as goal
 pub loop-end-init : goal.loop-end-init
 loop-end-init g c = record {
   lines = omega arith;
-  value = λ start config. bytes_start c.args.self.now.lines c.args.self.now.partial.text c.args.bytes.now
-      (KeepsLines config c.args.self.now.runner.core.state c.args.self.now.runner.counts c.args.self.now.runner.ticks
-      (HasFollowed g.F.Follower.follows start c.args.follower.now config));
+  value = λ start base. bytes_start c.args.self.now.lines c.args.self.now.partial.text c.args.bytes.now
+      (KeepsLines base c.args.self.now.runner.core.state c.args.self.now.runner.counts c.args.self.now.runner.ticks
+      (HasFollowed g.F.Follower.follows start c.args.follower.now base));
 }
 
 pub returns-in_err-end_line-clause-value : goal.returns-in_err-end_line-clause-value
@@ -21,17 +21,17 @@ returns-in_err-end_line-clause-value g c =
     let n = c.in-Some.end in
     let cut = cut_at_feed rest c.split_at.result.0.now (drop n rest) (drop 1 (drop n rest)) n c.in-Some.ensures.value
     c.split_at.ensures.front refl refl in
-    rw (p.1, p.2) (λ start config. bytes_stop g.F.Follower.may_stop c.args.self.now.lines c.loop-end.self.lines
+    rw (p.1, p.2) (λ start base. bytes_stop g.F.Follower.may_stop c.args.self.now.lines c.loop-end.self.lines
     c.end_line.new.self.lines c.args.self.now.partial.text c.args.bytes.now c.loop-end.self.partial.text rest
     c.split_at.result.0.now (drop 1 (drop n rest)) c.end_line.new.self.partial.text
-    (KeepsLines config c.args.self.now.runner.core.state c.args.self.now.runner.counts c.args.self.now.runner.ticks
-    (HasFollowed follows start c.args.follower.now config))
-    (KeepsLines config c.loop-end.self.runner.core.state c.loop-end.self.runner.counts c.loop-end.self.runner.ticks
-    (HasFollowed follows start c.loop-end.follower config))
-    (KeepsLines config c.end_line.new.self.runner.core.state c.end_line.new.self.runner.counts c.end_line.new.self.runner.ticks
-    (HasFollowed follows start c.end_line.new.follower config)) c.in_err-end_line.field-0.0
-    (good config c.loop-end.self.runner.core.state c.loop-end.self.runner.counts c.loop-end.self.runner.ticks
-    (HasFollowed follows start c.loop-end.follower config)) (c.loop-end.invariant.value start config) cut (c.in_err-end_line.ensures.value start config))
+    (KeepsLines base c.args.self.now.runner.core.state c.args.self.now.runner.counts c.args.self.now.runner.ticks
+    (HasFollowed follows start c.args.follower.now base))
+    (KeepsLines base c.loop-end.self.runner.core.state c.loop-end.self.runner.counts c.loop-end.self.runner.ticks
+    (HasFollowed follows start c.loop-end.follower base))
+    (KeepsLines base c.end_line.new.self.runner.core.state c.end_line.new.self.runner.counts c.end_line.new.self.runner.ticks
+    (HasFollowed follows start c.end_line.new.follower base)) c.in_err-end_line.field-0.0
+    (good base c.loop-end.self.runner.core.state c.loop-end.self.runner.counts c.loop-end.self.runner.ticks
+    (HasFollowed follows start c.loop-end.follower base)) (c.loop-end.invariant.value start base) cut (c.in_err-end_line.ensures.value start base))
 
 pub loop-end-smaller : goal.loop-end-smaller
 loop-end-smaller g c =
@@ -59,35 +59,35 @@ loop-end-preserved g c =
         ap length cut.parts,
         length-append part (10 ∷ next),
       );
-      value = rw (c.take_ticks.ensures.partial, c.in_ok-end_line.ensures.partial) (λ start config.
+      value = rw (c.take_ticks.ensures.partial, c.in_ok-end_line.ensures.partial) (λ start base.
           let was = c.end_line.new.self.runner in
           let is = c.take_ticks.new.self.runner in
-          let Old = KeepsLines config c.args.self.now.runner.core.state c.args.self.now.runner.counts c.args.self.now.runner.ticks
-          (HasFollowed follows start c.args.follower.now config) in
-          let Was = KeepsLines config was.core.state was.counts was.ticks
-          (HasFollowed follows start c.end_line.new.follower config) in
+          let Old = KeepsLines base c.args.self.now.runner.core.state c.args.self.now.runner.counts c.args.self.now.runner.ticks
+          (HasFollowed follows start c.args.follower.now base) in
+          let Was = KeepsLines base was.core.state was.counts was.ticks
+          (HasFollowed follows start c.end_line.new.follower base) in
           let fed = bytes_feed
           c.args.self.now.lines c.loop-end.self.lines c.args.self.now.partial.text c.args.bytes.now
           c.loop-end.self.partial.text rest part next Old
-          (KeepsLines config c.loop-end.self.runner.core.state c.loop-end.self.runner.counts c.loop-end.self.runner.ticks
-          (HasFollowed follows start c.loop-end.follower config)) Was (c.loop-end.invariant.value start config) cut
-          (c.in_ok-end_line.ensures.value start config) in
+          (KeepsLines base c.loop-end.self.runner.core.state c.loop-end.self.runner.counts c.loop-end.self.runner.ticks
+          (HasFollowed follows start c.loop-end.follower base)) Was (c.loop-end.invariant.value start base) cut
+          (c.in_ok-end_line.ensures.value start base) in
           bytes_ticks c.args.self.now.lines c.end_line.new.self.lines c.take_ticks.new.self.lines
           c.args.self.now.partial.text c.args.bytes.now next c.in_ok-rest.rest.now Old Was
-          (KeepsLines config is.core.state is.counts is.ticks (HasFollowed follows start c.take_ticks.new.follower config))
-          (rw (← c.in_ok-end_line.ensures.lines) at fed) (c.in_ok-rest.ensures.value start config));
+          (KeepsLines base is.core.state is.counts is.ticks (HasFollowed follows start c.take_ticks.new.follower base))
+          (rw (← c.in_ok-end_line.ensures.lines) at fed) (c.in_ok-rest.ensures.value start base));
     }
 
 pub returns-clause-value : goal.returns-clause-value
 returns-clause-value g c =
     let follows = g.F.Follower.follows in
-    rw (c.keep.ensures.runner, c.keep.ensures.lines) (λ start config. bytes_last g.F.Follower.may_stop
+    rw (c.keep.ensures.runner, c.keep.ensures.lines) (λ start base. bytes_last g.F.Follower.may_stop
     c.args.self.now.lines c.loop-end.self.lines c.args.self.now.partial.text c.args.bytes.now
     c.loop-end.self.partial.text c.loop-end.rest.now c.keep.new.self.partial.text
-    (KeepsLines config c.args.self.now.runner.core.state c.args.self.now.runner.counts c.args.self.now.runner.ticks
-    (HasFollowed follows start c.args.follower.now config))
-    (KeepsLines config c.loop-end.self.runner.core.state c.loop-end.self.runner.counts c.loop-end.self.runner.ticks
-    (HasFollowed follows start c.loop-end.follower config)) c.keep.result
-    (good config c.loop-end.self.runner.core.state c.loop-end.self.runner.counts c.loop-end.self.runner.ticks
-    (HasFollowed follows start c.loop-end.follower config)) (c.loop-end.invariant.value start config)
+    (KeepsLines base c.args.self.now.runner.core.state c.args.self.now.runner.counts c.args.self.now.runner.ticks
+    (HasFollowed follows start c.args.follower.now base))
+    (KeepsLines base c.loop-end.self.runner.core.state c.loop-end.self.runner.counts c.loop-end.self.runner.ticks
+    (HasFollowed follows start c.loop-end.follower base)) c.keep.result
+    (good base c.loop-end.self.runner.core.state c.loop-end.self.runner.counts c.loop-end.self.runner.ticks
+    (HasFollowed follows start c.loop-end.follower base)) (c.loop-end.invariant.value start base)
     (no_feed c.loop-end.rest.now c.in_default.ensures.value) c.keep.ensures.kept c.keep.ensures.long)

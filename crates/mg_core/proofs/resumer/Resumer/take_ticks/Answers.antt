@@ -4,7 +4,7 @@ use Rattle.mg_core.proofs.ResumeLemmas.{ticks_read}
 use Rattle.mg_core.proofs.resumer.Resumer.take_ticks.Goals as goal
 
 pub returns-clause-value : goal.returns-clause-value
-returns-clause-value g c start config =
+returns-clause-value g c start base =
     let follows = g.F.Follower.follows in
     let old = c.args.self.now.runner in
     let new = c.take_ticks.new.self in
@@ -14,7 +14,7 @@ returns-clause-value g c start config =
       number = refl;
       parts = subst (λ (l : List ℕ). IsAfterTicks count c.args.text.now l) (sym c.split_at.ensures.back)
           c.leading_ticks-count.ensures.value;
-      adds = ticks_read config old.core.state new.core.state old.counts new.counts old.ticks new.ticks
-          (HasFollowed follows start c.args.follower.now config) (HasFollowed follows start c.take_ticks.new.follower config)
-          count c.in_ok-take_ticks.ensures.counts (c.in_ok-take_ticks.ensures.value start config);
+      adds = ticks_read base old.core.state new.core.state old.counts new.counts old.ticks new.ticks
+          (HasFollowed follows start c.args.follower.now base) (HasFollowed follows start c.take_ticks.new.follower base)
+          count c.in_ok-take_ticks.ensures.counts (c.in_ok-take_ticks.ensures.value start base);
     }

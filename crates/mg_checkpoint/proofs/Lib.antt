@@ -1,0 +1,12 @@
+pub mod NumeralLemmas
+pub mod FormLemmas
+pub mod EscapeLemmas
+pub mod MediaLemmas
+pub mod LineLemmas
+pub mod TextLemmas
+pub mod WritingLemmas
+pub mod SavingLemmas
+pub mod AgreementLemmas
+pub mod RestoringLemmas
+pub mod RebuildLemmas
+pub mod SpeechLemmas

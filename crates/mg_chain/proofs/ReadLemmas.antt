@@ -1,12 +1,13 @@
 -- Reading a text line by line.
-use Rattle.std.proofs.Common.{◌≡◌, ℕ, zero, suc, ◌+◌, ◌<◌, ◌≤◌, Bool, true, false, eqb, List, [], ◌∷◌, ◌++◌, Option, None, Some, IfSome, cond, length, refl, sym, ap, subst, ◌∙◌, arith}
+use Rattle.std.proofs.Common.{◌≡◌, ℕ, zero, suc, ◌+◌, ◌<◌, ◌≤◌, Bool, true, false, eqb, List, [], ◌∷◌, ◌++◌, Option, None, Some, IfSome, cond, length, refl, sym, ap, subst, ◌∙◌, arith, append_assoc, append-nil}
 use Rattle.std.proofs.BufReadLemmas.{take_through_nonempty}
 use Rattle.std.specs.Io.KnownBytes.{IsAtEnd}
 use Rattle.std.specs.Io.BufRead.{take_through, drop_through, DropsThrough}
 use Rattle.sha2.specs.declared.Sha256.{Sha256}
 use Rattle.sha2.specs.Hashers.{Holds256}
 use Rattle.mg_chain.specs.declared.seals.Seals.{Seals}
-use Rattle.mg_chain.specs.Seals.{after_line, after_lines, is_whole, last_part, no_seals, seals_of}
+use Rattle.mg_chain.specs.declared.linked.Linked.{Linked}
+use Rattle.mg_chain.specs.Seals.{IsLinked, after_line, after_lines, is_whole, last_part, no_seals, seal_end, seals_of}
 use Rattle.mg_chain.specs.aids.Reading.{Reading, Reads}
 use Rattle.mg_chain.proofs.PartLemmas.{part_nil}
 
@@ -78,6 +79,7 @@ starts (Some all) hasher seals holds none = record {
   left = all;
   most = length all;
   remaining = refl;
+  parts = refl;
   whole = λ more. refl;
   holds = subst (λ (l : List ℕ). Holds256 hasher l) (sym part_nil) holds;
   enough = omega arith;
@@ -93,22 +95,53 @@ ends (Some all) rest hasher seals found number reads end same =
     same ∙ (sym (at_end reads.most seals number reads.before)
     ∙ (ap (λ left. after_lines reads.most seals number reads.before left) (sym none) ∙ reads.is))
 
+-- At the end of the text, the hasher holds its last part.
+ends_held : (all before left : List ℕ) (hasher : Sha256) → before ++ left ≡ all → left ≡ []
+    → Holds256 hasher (last_part before) → Holds256 hasher (last_part all)
+ends_held all before left hasher parts none holds =
+    subst (λ (l : List ℕ). Holds256 hasher (last_part l))
+    (sym (append-nil before) ∙ (ap (λ (l : List ℕ). before ++ l) (sym none) ∙ parts)) holds
+
+-- At the end of the text, what was found is what links the whole text.
+pub linked : (text rest : Option (List ℕ)) (hasher : Sha256) (seals : Seals) (found : Linked) (number : ℕ)
+    → Reads text rest hasher seals number → IsAtEnd rest → found.seals ≡ seals
+    → ((part : List ℕ) → Holds256 hasher part → found.end ≡ seal_end part)
+    → IfSome text (λ all. IsLinked all found)
+linked None rest hasher seals found number reads end same ends_so = tt
+linked (Some all) rest hasher seals found number reads end same ends_so =
+    let none : reads.left ≡ [] = subst (λ r. IsAtEnd r) reads.remaining end in (
+      ends (Some all) rest hasher seals found.seals number reads end same,
+      ends_so (last_part all) (ends_held all reads.before reads.left hasher reads.parts none reads.holds),
+    )
+
+through : (bs : List ℕ) → take_through 10 bs ++ drop_through 10 bs ≡ bs
+through [] = refl
+through (b ∷ bs) = at (eqb b 10) (through bs)
+  where
+    at : (is : Bool) → take_through 10 bs ++ drop_through 10 bs ≡ bs
+        → cond is (b ∷ []) (b ∷ take_through 10 bs) ++ cond is bs (drop_through 10 bs) ≡ b ∷ bs
+    at true h = refl
+    at false h = ap (λ (l : List ℕ). b ∷ l) h
+
 step : (all before left line : List ℕ) (most number : ℕ) (new : Option (List ℕ)) (after : Sha256) (seals found : Seals)
-    → length left ≤ most → after_lines most seals number before left ≡ seals_of all
+    → length left ≤ most → before ++ left ≡ all → after_lines most seals number before left ≡ seals_of all
     → (0 < length left → is_whole before ≡ true) → line ≡ take_through 10 left → 0 < length line
     → new ≡ Some (drop_through 10 left) → Holds256 after (last_part (before ++ line))
     → found ≡ after_line seals number before line → Reading all new after found (number + 1)
 unfolding after_lines
-step all before [] line most number new after seals found enough is whole taken some dropped holds counted =
+step all before [] line most number new after seals found enough parts is whole taken some dropped holds counted =
     absurd (omega (arith, ap length taken))
-step all before (b ∷ bs) line zero number new after seals found enough is whole taken some dropped holds counted =
+step all before (b ∷ bs) line zero number new after seals found enough parts is whole taken some dropped holds counted =
     absurd (omega arith)
-step all before (b ∷ bs) line (suc most) number new after seals found enough is whole taken some dropped holds counted =
+step all before (b ∷ bs) line (suc most) number new after seals found enough parts is whole taken some dropped holds counted =
     record {
       before = before ++ line;
       left = drop_through 10 (b ∷ bs);
       most = most;
       remaining = dropped;
+      parts = append_assoc before line (drop_through 10 (b ∷ bs))
+          ∙ (ap (λ (l : List ℕ). before ++ (l ++ drop_through 10 (b ∷ bs))) taken
+          ∙ (ap (λ (l : List ℕ). before ++ l) (through (b ∷ bs)) ∙ parts));
       whole = λ more. whole_append before line (whole (omega arith))
           (ap is_whole taken ∙ line_whole (b ∷ bs) more);
       holds = holds;
@@ -136,5 +169,5 @@ goes_on (Some all) rest new hasher after seals found number old items line reads
     subst (λ r. DropsThrough r new 10) reads.remaining drops in
     let took = takes reads.before
     (reads.whole (take_through_nonempty 10 reads.left (omega (arith, some, ap length taken)))) reads.holds in
-    step all reads.before reads.left line reads.most number new after seals found reads.enough reads.is reads.whole taken
+    step all reads.before reads.left line reads.most number new after seals found reads.enough reads.parts reads.is reads.whole taken
     some dropped took.0 took.1

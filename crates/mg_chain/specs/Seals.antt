@@ -2,10 +2,12 @@
 use Rattle.std.specs.Prelude.{◌≡◌, ℕ, zero, suc, ◌+◌, ◌&&◌, ◌||◌, ◌==◌, length, Bool, true, false, List, [], ◌∷◌, ◌++◌}
 use Rattle.std.specs.Prelude.{Option, Some, None, codes, drop, IfSome, if◌then◌else◌}
 use Rattle.std.specs.List.{starts_with, ends_with}
+use Rattle.std.specs.Option.{option_or}
 use Rattle.std.specs.Prelude.{bytes_eq, nat_eq}
 use Rattle.std.specs.Io.BufRead.{take_through, drop_through}
 use Rattle.hex.specs.Hex.{encode_lower}
 use Rattle.sha2.specs.Sha256.{sha256}
+use Rattle.mg_chain.specs.declared.linked.Linked.{Linked}
 use Rattle.mg_chain.specs.declared.seals.Seals.{Seals}
 
 -- Whether a line is a seal, valid or not. An incomplete line is not a seal.
@@ -45,17 +47,28 @@ IsSeal known line = (part : List ℕ) × (line ≡ seal_of part) × IfSome known
 abbrev pub IsSealEnd : Option (List ℕ) → List ℕ → Type 0
 IsSealEnd known end = (part : List ℕ) × (end ≡ seal_end part) × IfSome known (λ text. last_part text ≡ part)
 
+-- The line says which text the lines behind it follow: it has the end of a seal of that text's last part. If `known`
+-- has a value, the text is that value.
+abbrev pub IsFollowing : Option (List ℕ) → List ℕ → Type 0
+IsFollowing known line = (end : List ℕ) × IsSealEnd known end × (line ≡ codes "# follows " ++ end)
+
 -- The counts after one more seal, valid or not. Seals after an invalid seal are not counted.
 abbrev pub judged : Bool → ℕ → Seals → (wrong : Option ℕ) → Seals
 judged is_right number seals (Some first) = seals
 judged true number seals None = record seals { count = seals.count + 1; right = Some number }
 judged false number seals None = record seals { wrong = Some number }
 
--- The counts after one more line, with this number and with the text `before` in front of it.
+-- The end of a line that says which text the lines behind it follow, if the line does.
+abbrev pub followed_in : List ℕ → Option (List ℕ)
+followed_in line =
+    if starts_with nat_eq line (codes "# follows ") && length line == 75 then Some (drop 10 line) else None
+
+-- The counts after one more line, with this number and with the text `before` in front of it. The first line that says
+-- what the text follows counts.
 abbrev pub after_line : Seals → ℕ → (before line : List ℕ) → Seals
 after_line seals number before line = record
     (if is_seal line then judged (bytes_eq (drop 9 line) (seal_end (last_part before))) number seals seals.wrong else seals)
-    { lines = number }
+    { lines = number; follows = option_or seals.follows (followed_in line) }
 
 -- The counts after the lines of the rest of a text, whose first line has this number. A line ends after its line feed,
 -- or at the end of the text. `most` bounds the number of lines.
@@ -68,8 +81,12 @@ after_lines (suc most) seals number before (b ∷ bs) =
 
 -- The counts before the first line.
 abbrev pub no_seals : Seals
-no_seals = record { count = 0; right = None; wrong = None; lines = 0 }
+no_seals = record { count = 0; right = None; wrong = None; lines = 0; follows = None }
 
 -- The counts for all lines of a text.
 abbrev pub seals_of : List ℕ → Seals
 seals_of text = after_lines (length text) no_seals 1 [] text
+
+-- The counts for all lines of a text, and the end of the seal that would follow it.
+abbrev pub IsLinked : List ℕ → Linked → Type 0
+IsLinked text linked = (linked.seals ≡ seals_of text) × (linked.end ≡ seal_end (last_part text))

@@ -1,8 +1,8 @@
 ghost use Rattle.std.specs.Prelude.{◌≡◌, ◌<◌, ◌≤◌, ◌++◌, ◌∷◌, [], List, ℕ, None, IsTrue, bytes_eq, drop, true};
 ghost use Rattle.sha2.specs.Hashers.{Holds256};
-ghost use Rattle.mg_chain.specs.Seals.{after_line, is_seal, is_whole, judged, last_part, no_seals};
+ghost use Rattle.mg_chain.specs.Seals.{after_line, is_seal, is_whole, followed_in, judged, last_part, no_seals, seal_end};
 
-use crate::chain::{Chain, END, MARK};
+use crate::chain::{Chain, END, FOLLOWS, MARK};
 use crate::seals::Seals;
 
 /// Returns whether a line is a seal, valid or not.
@@ -20,6 +20,17 @@ fn has_end(line: &[u8], end: &[u8; END]) -> bool
     match line.strip_prefix(MARK) {
         Some(rest) => rest == end.as_slice(),
         None => false,
+    }
+}
+
+/// Returns the end of a line that says which text the lines behind it follow, or `None` for any other line.
+fn followed_in(line: &[u8]) -> Option<[u8; END]>
+    ensures value { result ≡ followed_in line.now }
+{
+    let rest = line.strip_prefix(FOLLOWS)?;
+    match <[u8; END]>::try_from(rest) {
+        Ok(end) => Some(end),
+        Err(_) => None,
     }
 }
 
@@ -43,6 +54,7 @@ impl Check {
                 right: None,
                 wrong: None,
                 lines: 0,
+                follows: None,
             },
         }
     }
@@ -52,6 +64,13 @@ impl Check {
         ensures value { result ≡ self.now.seals }
     {
         self.seals
+    }
+
+    /// Returns the end of the seal that would follow the text.
+    pub fn end(&self) -> [u8; END]
+        ensures value { (part : List ℕ) → Holds256 self.now.chain part → result ≡ seal_end part }
+    {
+        self.chain.seal_end()
     }
 
     /// Counts a seal, valid or not.
@@ -85,6 +104,7 @@ impl Check {
             self.count(is_right, number);
         }
         self.seals.lines = number;
+        self.seals.follows = self.seals.follows.or(followed_in(line));
         self.chain.add(line);
     }
 }

@@ -1,4 +1,7 @@
-/// The counts of seals and lines in a text, and the line numbers of the first invalid and the last valid seal.
+use crate::chain::END;
+
+/// The counts of seals and lines in a text, the line numbers of the first invalid and the last valid seal, and what the
+/// text says of the text that it follows.
 #[derive(Clone, Copy, Debug, PartialEq, Eq)]
 pub struct Seals {
     /// How many seals are valid, up to the first invalid seal.
@@ -9,4 +12,7 @@ pub struct Seals {
     pub wrong: Option<u64>,
     /// How many lines the text has. The last line may lack its line feed.
     pub lines: u64,
+    /// The end of the first line that begins with `# follows`: the digits of a hash and a line feed. `None` if there is
+    /// no such line.
+    pub follows: Option<[u8; END]>,
 }

@@ -39,6 +39,11 @@ impl DateText {
         Some(DateText { text })
     }
 
+    /// Returns the text as a string.
+    pub(crate) fn as_str(&self) -> &str {
+        str::from_utf8(self.text.as_slice()).unwrap_or("")
+    }
+
     pub(crate) fn as_slice(&self) -> &[u8]
         ensures value { result.now ≡ self.now }
         ensures short { IsShortLine self.now }

@@ -1,12 +1,14 @@
-ghost use Rattle.std.specs.Prelude.{◌≡◌, ◌⊎◌, ◌+◌, ◌≤◌, [], length, IfOk};
+ghost use Rattle.std.specs.Prelude.{◌≡◌, ◌⊎◌, ◌+◌, ◌++◌, ◌≤◌, [], codes, length, IfOk, OnOk};
 ghost use Rattle.mg_chain.specs.Seals.{IsSeal};
 ghost use Rattle.mg_journal.specs.Journal.{text_to_seal};
 ghost use Rattle.mg_journal.specs.Text.{EndsInLineFeed};
-ghost use Rattle.mg_ports.specs.Journaled.{AppendsDated};
+ghost use Rattle.mg_dates.specs.aids.Texts.{Extends, IsJoined, IsShortLine};
+ghost use Rattle.mg_dates.specs.declared.date_text.TheConstants.{TEXT_LIMIT};
+ghost use Rattle.mg_ports.specs.Journaled.{AppendsDated, RenewsDated};
 
 use crate::date::Date;
 use crate::date_text::{DateText, TEXT_LIMIT};
-use mg_chain::{END, MARK};
+use mg_chain::{END, FOLLOWS, MARK};
 use mg_core::count_of;
 use mg_journal::{AppendFault, Durability, Journal};
 use mg_reply::Bytes;
@@ -28,6 +30,9 @@ const TICK: u64 = 20;
 
 /// The length of a seal's line, in bytes.
 const SEAL: usize = 9 + END;
+
+/// The length of the line that says which journal another one follows, in bytes.
+const JOINT: usize = 10 + END;
 
 /// The capacity of the buffer, in bytes.
 const TEXT_ROOM: usize = LINES_ROOM + TEXT_LIMIT + MARKS + SEAL;
@@ -126,6 +131,30 @@ fn start_text<J: Journal>(is_due: bool, journal: &J, text: &mut Bytes)
     }
 }
 
+/// Appends to a text the line that says which journal the text follows, and a line with a date. `buffer` is
+/// overwritten. If there is no memory, the text is unchanged.
+fn push_joint<J: Journal>(
+    journal: &J,
+    date: &DateText,
+    buffer: &mut Bytes,
+    text: &mut Vec<u8>,
+) -> Result<(), AllocError>
+    requires room { JOINT + TEXT_LIMIT + MARKS ≤ buffer.old.room + length buffer.old.text }
+    ensures room { buffer.new.room + length buffer.new.text ≡ buffer.old.room + length buffer.old.text }
+    ensures joined { OnOk result (IsJoined (text_to_seal (J.journal journal.now)) date.now text.old.items
+        text.new.items) }
+    ensures front { Extends text.old.items text.new.items }
+    ensures short { IsShortLine date.now }
+{
+    buffer.clear();
+    buffer.push(FOLLOWS);
+    buffer.push(&journal.seal_end());
+    buffer.push(DATE);
+    buffer.push(date.as_slice());
+    buffer.push(b"\n");
+    text.extend_from_slice(buffer.as_slice())
+}
+
 impl<'a, J: Journal, C: Clock> DatedJournal<'a, J, C> {
     /// Creates a journal that adds dates. No other call allocates.
     pub fn new(alloc: Global, journal: J, clock: &'a C) -> Result<Self, AllocError>
@@ -194,6 +223,44 @@ impl<'a, J: Journal, C: Clock> DatedJournal<'a, J, C> {
         if result.is_ok() {
             self.last = Some(date);
             self.sealed = sealed_at(is_due, date, self.sealed);
+        }
+        result
+    }
+    /// Returns the journal's size, in bytes, or 0 if it is broken.
+    pub fn size(&self) -> u64 {
+        self.journal.size()
+    }
+
+    /// Returns whether whoever reads the journal's file finds the whole journal.
+    pub fn is_intact(&mut self) -> bool
+        ensures same { self.new ≡ self.old }
+    {
+        self.journal.is_intact()
+    }
+
+    /// Replaces the journal by one with this text, which ends in a line feed. After the text come a line with the hash of
+    /// the old journal's last part, and a date. The old journal keeps a name that ends in the date. Fails if the date
+    /// isn't known or there is no memory. If the call fails, the journal is unchanged.
+    pub fn renew(&mut self, text: &mut Vec<u8>, durability: Durability) -> Result<(), AppendFault>
+        requires line_feed { EndsInLineFeed text.old.items }
+        ensures value { RenewsDated text.old.items durability self.old self.new result }
+        ensures front { Extends text.old.items text.new.items }
+    {
+        let Ok(date) = Date::now(self.clock) else {
+            return Err(AppendFault::Refused);
+        };
+        let Some(line) = DateText::of(date) else {
+            return Err(AppendFault::Refused);
+        };
+        let Ok(()) = push_joint(&self.journal, &line, &mut self.text, text) else {
+            return Err(AppendFault::Refused);
+        };
+        let result = self
+            .journal
+            .renew(text.as_slice(), line.as_str(), durability);
+        if result.is_ok() {
+            self.last = Some(date);
+            self.sealed = None;
         }
         result
     }

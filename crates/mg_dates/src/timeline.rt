@@ -126,7 +126,7 @@ impl Follower for Timeline {
     ghost use Rattle.std.specs.Prelude.{◌≡◌, reverse};
     ghost use Rattle.mg_dates.specs.Times.{timeline_of};
 
-    ghost follows = { λ start t config notes. t ≡ timeline_of (reverse notes) };
+    ghost follows = { λ start t base notes. t ≡ timeline_of (reverse notes) };
 
     fn comment(&mut self, _number: u64, line: &[u8]) -> Result<(), Stopped> {
         self.pass_comment(line);

@@ -137,6 +137,19 @@ impl Tells for FakeHost {
         };
         self.log.add(call);
     }
+
+    fn log_renewal(
+        &mut self,
+        text: &[u8],
+        durability: Durability,
+        outcome: Result<(), AppendFault>,
+    ) {
+        let call = match Payload::new(self.alloc, text) {
+            Ok(text) => Some(HostCall::OnPorts(Call::Renew(text, durability, outcome))),
+            Err(_) => None,
+        };
+        self.log.add(call);
+    }
 }
 
 impl Journals for FakeHost {

@@ -3,3 +3,4 @@ mod LastPartLemmas
 pub mod TextLemmas
 pub mod AppendLemmas
 pub mod OpeningLemmas
+pub mod RenewalLemmas

@@ -1,6 +1,7 @@
 -- The effect of an append on a journal.
-use Rattle.std.specs.Prelude.{◌≡◌, ℕ, Bool, true, false, List, take, Option, None, Result, Ok, Err}
-use Rattle.std.specs.Prelude.{if◌then◌else◌}
+use Rattle.std.specs.Prelude.{◌≡◌, ℕ, Bool, true, false, List, [], take, Option, None, Result, Ok}
+use Rattle.std.specs.Prelude.{Err, if◌then◌else◌}
+use Rattle.std.specs.Option.{option_map}
 use Rattle.std.specs.Io.KnownBytes.{append_known}
 use Rattle.mg_journal.specs.declared.append_fault.AppendFault.{AppendFault}
 use Rattle.mg_journal.specs.declared.append_fault.AppendFault.TheVariants.{Refused, Broken}
@@ -57,3 +58,17 @@ Appends lines durability old new (Ok done) =
     (old.is_broken ≡ false) × (new ≡ appended lines durability old)
 Appends lines durability old new (Err Refused) = (old.is_broken ≡ false) × (new ≡ old)
 Appends lines durability old new (Err Broken) = Breaks lines old new
+
+-- The journal after another one with this text has taken its place. It isn't broken.
+abbrev pub renewed : List ℕ → Durability → JournalState → JournalState
+renewed text durability old = record {
+  text = option_map (λ before. text) old.text;
+  synced = if is_synced durability then option_map (λ before. text) old.text else option_map (λ before. []) old.synced;
+  is_broken = false;
+}
+
+-- Another journal with this text took the journal's place. If that failed, nothing changed.
+abbrev pub Renews : List ℕ → Durability → JournalState → JournalState
+    → Result (Unit {0}) AppendFault → Type 0
+Renews text durability old new (Ok done) = new ≡ renewed text durability old
+Renews text durability old new (Err fault) = new ≡ old

@@ -29,6 +29,13 @@ cut_to len file = record {
 abbrev pub synced : FileState → FileState
 synced file = record file { synced = file.bytes }
 
+-- A file without bytes.
+abbrev pub emptied : FileState → FileState
+emptied file = record {
+  bytes = option_map (λ bytes. []) file.bytes;
+  synced = option_map (λ bytes. []) file.synced;
+}
+
 -- The file has these bytes at this offset. The list is empty only if the file ends there.
 abbrev pub HasAt : FileState → ℕ → List ℕ → Type 0
 HasAt file at part =
@@ -53,3 +60,8 @@ module _ {E : Type 0} where
   abbrev pub Syncs : FileState → FileState → Result (Unit {0}) E → Type 0
   Syncs old new (Ok done) = new ≡ synced old
   Syncs old new (Err error) = new ≡ old
+
+  -- Another file took the file's place. If that failed, the file is unchanged.
+  abbrev pub Replaces : (next old new : FileState) → Result (Unit {0}) E → Type 0
+  Replaces next old new (Ok done) = new ≡ next
+  Replaces next old new (Err error) = new ≡ old

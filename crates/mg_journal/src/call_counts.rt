@@ -7,6 +7,9 @@ pub(crate) struct CallCounts {
     writes: u64,
     cuts: u64,
     syncs: u64,
+    files: u64,
+    names: u64,
+    replacements: u64,
 }
 
 impl CallCounts {
@@ -29,6 +32,18 @@ impl CallCounts {
             FileCall::Sync => {
                 self.syncs = before.syncs.wrapping_add(1);
                 before.syncs
+            }
+            FileCall::CreateNext => {
+                self.files = before.files.wrapping_add(1);
+                before.files
+            }
+            FileCall::Keep => {
+                self.names = before.names.wrapping_add(1);
+                before.names
+            }
+            FileCall::Replace => {
+                self.replacements = before.replacements.wrapping_add(1);
+                before.replacements
             }
         }
     }

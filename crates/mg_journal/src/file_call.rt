@@ -5,4 +5,7 @@ pub enum FileCall {
     Write,
     Cut,
     Sync,
+    CreateNext,
+    Keep,
+    Replace,
 }

@@ -1,11 +1,13 @@
 ghost use Rattle.std.specs.Prelude.{◌≡◌, false, IfSome};
+ghost use Rattle.sha2.specs.Hashers.{Holds256};
+ghost use Rattle.mg_chain.specs.Seals.{last_part};
 ghost use Rattle.mg_journal.specs.aids.Appending.{IsHashed, IsJournal, journal_in};
 
 use crate::append_fault::AppendFault;
 use crate::durability::Durability;
 use crate::journal::Journal;
 use crate::journal_file::JournalFile;
-use crate::writing::put_lines;
+use crate::writing::{put_lines, replace_by};
 use mg_chain::{Chain, END};
 use std::io;
 use std::marker::Model;
@@ -33,6 +35,24 @@ impl<F: JournalFile> Model for FileJournal<F> {
 
     ghost invariant = { λ j. IsJournal (F.file j.file) j.len j.is_broken
         × IsHashed (F.file j.file) j.chain j.is_broken };
+}
+
+/// Returns the hash of the last part of a text.
+fn chain_of(text: &[u8]) -> Chain
+    ensures value { Holds256 result (last_part text.now) }
+{
+    let mut chain = Chain::new();
+    chain.add(text);
+    chain
+}
+
+/// Returns the fault of a call that changed nothing.
+fn fault_of(is_broken: bool) -> AppendFault {
+    if is_broken {
+        AppendFault::Broken
+    } else {
+        AppendFault::Refused
+    }
 }
 
 impl<F: JournalFile> FileJournal<F> {
@@ -64,7 +84,7 @@ impl<F: JournalFile> FileJournal<F> {
     }
 }
 
-impl<F: JournalFile> Journal for FileJournal<F> {
+impl<F: JournalFile + Drop> Journal for FileJournal<F> {
     ghost journal = { λ j. j };
 
     fn append(&mut self, lines: &[u8], durability: Durability) -> Result<(), AppendFault> {
@@ -85,6 +105,34 @@ impl<F: JournalFile> Journal for FileJournal<F> {
                 self.is_broken = is_final;
                 self.last_error = Some(failed.error);
                 Err(failed.fault)
+            }
+        }
+    }
+
+    fn size(&self) -> u64 {
+        if self.is_broken { 0 } else { self.len }
+    }
+
+    fn is_intact(&mut self) -> bool {
+        !self.is_broken && self.file.is_there(self.len).unwrap_or(true)
+    }
+
+    fn renew(
+        &mut self,
+        text: &[u8],
+        suffix: &str,
+        durability: Durability,
+    ) -> Result<(), AppendFault> {
+        match replace_by(text, suffix, durability, &mut self.file) {
+            Ok(()) => {
+                self.len = text.len() as u64;
+                self.is_broken = false;
+                self.chain = chain_of(text);
+                Ok(())
+            }
+            Err(error) => {
+                self.last_error = Some(error);
+                Err(fault_of(self.is_broken))
             }
         }
     }

@@ -1,6 +1,6 @@
 ghost use Rattle.std.specs.Prelude.{◌≡◌, ◌-◌, length, slice_index};
 ghost use Rattle.mg_journal.specs.Text.{EndsInLineFeed};
-ghost use Rattle.mg_journal.specs.Journal.{JournalState, Appends, text_to_seal};
+ghost use Rattle.mg_journal.specs.Journal.{JournalState, Appends, Renews, text_to_seal};
 ghost use Rattle.mg_chain.specs.Seals.{IsSealEnd};
 
 use crate::append_fault::AppendFault;
@@ -17,6 +17,25 @@ pub trait Journal {
     fn append(&mut self, lines: &[u8], durability: Durability) -> Result<(), AppendFault>
         requires line_feed { EndsInLineFeed lines.now }
         ensures value { Appends lines.now durability (journal self.old) (journal self.new) result };
+
+    /// Returns the journal's size, in bytes, or 0 if it is broken.
+    fn size(&self) -> u64;
+
+    /// Returns whether whoever reads the journal's file finds the whole journal. If the system can't say, the answer is
+    /// yes, unless the journal is broken.
+    fn is_intact(&mut self) -> bool
+        ensures same { journal self.new ≡ journal self.old };
+
+    /// Replaces the journal by another one with this text, which ends in a line feed. So a broken journal works again. The
+    /// old journal keeps a name that ends in the suffix. If that fails, nothing changes.
+    fn renew(
+        &mut self,
+        text: &[u8],
+        suffix: &str,
+        durability: Durability,
+    ) -> Result<(), AppendFault>
+        requires line_feed { EndsInLineFeed text.now }
+        ensures value { Renews text.now durability (journal self.old) (journal self.new) result };
 
     /// Returns the end of the seal of the last part of the journal's text (`mg_chain`). If the journal is broken, it
     /// can be the seal of any text.

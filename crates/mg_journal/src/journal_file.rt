@@ -1,4 +1,5 @@
-ghost use Rattle.mg_journal.specs.JournalFile.{FileState, ReadsAt, WritesSome, Cuts, Syncs, unknown};
+ghost use Rattle.std.specs.Prelude.{◌≡◌, IfOk};
+ghost use Rattle.mg_journal.specs.JournalFile.{FileState, ReadsAt, WritesSome, Cuts, Syncs, Replaces, emptied, unknown};
 
 use std::io;
 
@@ -22,4 +23,21 @@ pub trait JournalFile {
     /// Waits until the whole file is on the disk.
     fn sync(&mut self) -> io::Result<()>
         ensures value { Syncs (file self.old) (file self.new) result };
+
+    /// Returns whether the file's path still leads to this file, and the file has this length, in bytes.
+    fn is_there(&mut self, len: u64) -> io::Result<bool>
+        ensures same { file self.new ≡ file self.old };
+
+    /// Creates an empty file that can replace this one.
+    fn create_next(&mut self) -> io::Result<Self>
+        ensures same { file self.new ≡ file self.old }
+        ensures empty { IfOk result (λ next. file next ≡ emptied (file self.old)) };
+
+    /// Gives the file another name, which ends in this suffix. So the file lasts after it was replaced.
+    fn keep(&mut self, suffix: &str) -> io::Result<()>
+        ensures same { file self.new ≡ file self.old };
+
+    /// Replaces this file by the next one, at once: whoever opens the file's path finds either this file or the next one.
+    fn replace(&mut self, next: Self) -> io::Result<()>
+        ensures value { Replaces (file next) (file self.old) (file self.new) result };
 }

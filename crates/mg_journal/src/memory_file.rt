@@ -117,4 +117,32 @@ impl JournalFile for MemoryFile {
         self.synced = self.bytes.len();
         Ok(())
     }
+
+    fn is_there(&mut self, len: u64) -> io::Result<bool> {
+        Ok(self.bytes.len() as u64 == len)
+    }
+
+    fn create_next(&mut self) -> io::Result<Self> {
+        if let Err(error) = self.begin(FileCall::CreateNext) {
+            return Err(error);
+        }
+        let bytes = Vec::new(*self.bytes.allocator());
+        Ok(MemoryFile::new(bytes, Vec::new(*self.bytes.allocator())))
+    }
+
+    fn keep(&mut self, _suffix: &str) -> io::Result<()> {
+        match self.begin(FileCall::Keep) {
+            Ok(_) => Ok(()),
+            Err(error) => Err(error),
+        }
+    }
+
+    fn replace(&mut self, next: Self) -> io::Result<()> {
+        if let Err(error) = self.begin(FileCall::Replace) {
+            return Err(error);
+        }
+        self.bytes = next.bytes;
+        self.synced = next.synced;
+        Ok(())
+    }
 }

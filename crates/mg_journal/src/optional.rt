@@ -6,13 +6,39 @@ use crate::durability::Durability;
 use crate::journal::Journal;
 use mg_chain::{Chain, END};
 
-/// A journal that may be absent. If it is absent, each append fails with `Broken`.
+/// A journal that may be absent. If it is absent, each append and each renewal fails with `Broken`.
 impl<J: Journal> Journal for Option<J> {
     ghost journal = { λ j. option_map_or J.journal j no_journal };
 
     fn append(&mut self, lines: &[u8], durability: Durability) -> Result<(), AppendFault> {
         match self {
             Some(journal) => journal.append(lines, durability),
+            None => Err(AppendFault::Broken),
+        }
+    }
+
+    fn size(&self) -> u64 {
+        match self {
+            Some(journal) => journal.size(),
+            None => 0,
+        }
+    }
+
+    fn is_intact(&mut self) -> bool {
+        match self {
+            Some(journal) => journal.is_intact(),
+            None => false,
+        }
+    }
+
+    fn renew(
+        &mut self,
+        text: &[u8],
+        suffix: &str,
+        durability: Durability,
+    ) -> Result<(), AppendFault> {
+        match self {
+            Some(journal) => journal.renew(text, suffix, durability),
             None => Err(AppendFault::Broken),
         }
     }

@@ -1,4 +1,4 @@
-ghost use Rattle.mg_journal.specs.aids.Appending.{CutsBack, Puts, Writes};
+ghost use Rattle.mg_journal.specs.aids.Appending.{CutsBack, IsReplaced, Puts, Writes};
 
 use crate::append_fault::AppendFault;
 use crate::durability::Durability;
@@ -64,4 +64,21 @@ pub(crate) fn put_lines<F: JournalFile>(
             error,
         }),
     }
+}
+
+/// Replaces a file by a new one with this text. The old file keeps a name that ends in the suffix.
+pub(crate) fn replace_by<F: JournalFile + Drop>(
+    text: &[u8],
+    suffix: &str,
+    durability: Durability,
+    file: &mut F,
+) -> io::Result<()>
+    ensures value { IsReplaced text.now durability (F.file file.old) (F.file file.new) result }
+{
+    let mut next = file.create_next()?;
+    if let Err(failed) = put_lines(text, 0, durability, &mut next) {
+        return Err(failed.error);
+    }
+    file.keep(suffix)?;
+    file.replace(next)
 }

@@ -1,7 +1,8 @@
-ghost use Rattle.std.specs.Prelude.{◌≡◌, ◌≤◌, length, IfOk, IfSome, OnErr};
+ghost use Rattle.std.specs.Prelude.{◌≡◌, ◌≤◌, ◌++◌, codes, length, IfOk, IfSome, OnErr, OnOk};
 ghost use Rattle.std.specs.Option.{option_map_or};
 ghost use Rattle.mg_journal.specs.Journal.{no_journal};
 ghost use Rattle.mg_ports.specs.Calls.{IsCounted, receipt_of};
+ghost use Rattle.mg_ports.specs.Journaled.{RenewsDated};
 
 use crate::arrival::Arrival;
 use crate::call::Call;
@@ -11,13 +12,14 @@ use crate::payload::Payload;
 use crate::port_fault::PortFault;
 use crate::ports::Ports;
 use crate::receipt::Receipt;
+use mg_chain::{END, FOLLOWS};
 use mg_clock::Timing;
 use mg_journal::{AppendFault, Durability, FileJournal, Journal, MemoryFile};
 use mg_words::Peer;
 use std::alloc::{AllocError, Global};
 
 /// In-memory ports for tests. Each call is logged, as long as there is memory for it. The ports have no journal unless
-/// one is added; lines are appended to it without comments.
+/// one is added; it is appended to and renewed without dates, and renewals are due after chosen ticks.
 #[derive(Drop)]
 pub struct FakePorts {
     alloc: Global,
@@ -26,6 +28,8 @@ pub struct FakePorts {
     made: u64,
     failures: u64,
     journal: Option<FileJournal<MemoryFile>>,
+    ticks: u64,
+    renewals: Vec<u64>,
     log: Log,
 }
 
@@ -45,6 +49,30 @@ fn receipt_of(
     }
 }
 
+/// Appends to a text the line with this hash, which says what the text follows. If there is no memory, fails.
+fn push_follows(end: &[u8; END], text: &mut Vec<u8>) -> Result<(), AllocError>
+    ensures value { OnOk result (text.new.items ≡ text.old.items ++ (codes "# follows " ++ end.now)) }
+{
+    text.extend_from_slice(FOLLOWS)?;
+    text.extend_from_slice(end)
+}
+
+/// Replaces a journal by one with this text, and with the line that says what the text follows.
+fn renew_joined(
+    journal: &mut Option<FileJournal<MemoryFile>>,
+    text: &mut Vec<u8>,
+    durability: Durability,
+) -> Result<(), AppendFault>
+    ensures value { RenewsDated text.old.items durability (option_map_or (λ j. j) journal.old no_journal)
+        (option_map_or (λ j. j) journal.new no_journal) result }
+{
+    let end = journal.seal_end();
+    let Ok(()) = push_follows(&end, text) else {
+        return Err(AppendFault::Refused);
+    };
+    journal.renew(text.as_slice(), "", durability)
+}
+
 impl FakePorts {
     /// Creates ports with these datagrams waiting, in this order at each socket. `failing` lists the numbers of the
     /// receives and sends that fail, counted from 0 across all sockets.
@@ -56,6 +84,8 @@ impl FakePorts {
             made: 0,
             failures: 0,
             journal: None,
+            ticks: 0,
+            renewals: Vec::new(alloc),
             log: Log::new(alloc),
         }
     }
@@ -66,6 +96,11 @@ impl FakePorts {
             journal: Some(journal),
             ..self
         }
+    }
+
+    /// Makes a renewal of the journal due after these ticks, counted from 1.
+    pub fn with_renewals(self, renewals: Vec<u64>) -> Self {
+        FakePorts { renewals, ..self }
     }
 
     /// Returns the file of the journal, or `None` if there is no journal.
@@ -156,6 +191,7 @@ impl Ports for FakePorts {
     }
 
     fn begin_tick(&mut self, timing: Timing) {
+        self.ticks = self.ticks.wrapping_add(1);
         self.log.add_call(Some(Call::BeginTick(timing)));
     }
 
@@ -167,6 +203,21 @@ impl Ports for FakePorts {
         };
         self.log.add_call(call);
         answer
+    }
+
+    fn renew(&mut self, text: &mut Vec<u8>, durability: Durability) -> Result<(), AppendFault> {
+        let copy = Payload::new(self.alloc, text.as_slice());
+        let answer = renew_joined(&mut self.journal, text, durability);
+        let call = match copy {
+            Ok(text) => Some(Call::Renew(text, durability, answer)),
+            Err(_) => None,
+        };
+        self.log.add_call(call);
+        answer
+    }
+
+    fn is_renewal_due(&mut self) -> bool {
+        self.renewals.contains(&self.ticks)
     }
 
     fn failures(&self) -> u64 {

@@ -3,8 +3,8 @@
 //! Socket 0 is the control socket, and socket s + 1 is the media socket of slot s in the pool.
 //!
 //! [`Ports`] has the calls that a gateway needs. They receive a datagram without blocking, send a datagram, begin a
-//! tick, append lines to the journal, and count the failed receives and sends. [`FakePorts`] provides in-memory ports
-//! for tests. These return the datagrams that they were given, make chosen calls fail, and log each call.
+//! tick, append lines to the journal, renew it, and count the failed receives and sends. [`FakePorts`] provides in-memory
+//! ports for tests. These return the datagrams that they were given, make chosen calls fail, and log each call.
 //!
 //! ```rust
 //! let mut ports = FakePorts::new(alloc, waiting, failing);
@@ -16,8 +16,8 @@
 //!
 //! Contracts describe ports by the calls on them (`specs/Calls.antt`) and by the effects of these calls on the journal
 //! (`specs/Journaled.antt`). Ports may log the calls in one list, which shows their order. The log has each receive
-//! with its result, each send with its arguments, each beginning of a tick, and each append with its arguments and
-//! result. Ports that use the operating system's sockets log nothing.
+//! with its result, each send with its arguments, each beginning of a tick, and each append and renewal with its arguments
+//! and result. Ports that use the operating system's sockets log nothing.
 #![tactic(auto)]
 
 mod arrival;

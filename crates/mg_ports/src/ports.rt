@@ -1,10 +1,10 @@
 ghost use Rattle.std.specs.Prelude.{◌≡◌, ℕ, ◌≤◌, [], ◌∷◌, length, List, Option, None, IfOk, IfSome, OnErr};
 ghost use Rattle.mg_ports.specs.declared.call.Call.{Call};
-ghost use Rattle.mg_ports.specs.declared.call.Call.TheVariants.{Receive, Send, BeginTick, Append};
+ghost use Rattle.mg_ports.specs.declared.call.Call.TheVariants.{Receive, Send, BeginTick, Append, Renew};
 ghost use Rattle.mg_journal.specs.Text.{EndsInLineFeed};
 ghost use Rattle.mg_journal.specs.Journal.{JournalState, no_journal};
 ghost use Rattle.mg_ports.specs.Calls.{Logged, IsCounted, receipt_of};
-ghost use Rattle.mg_ports.specs.Journaled.{AppendsDated};
+ghost use Rattle.mg_ports.specs.Journaled.{AppendsDated, RenewsDated};
 
 use crate::failure_causes::FailureCauses;
 use crate::port_fault::PortFault;
@@ -56,6 +56,19 @@ pub trait Ports {
         requires line_feed { EndsInLineFeed lines.now }
         ensures logged { Logged (calls self.old) (calls self.new) (Append lines.now durability result ∷ []) }
         ensures journal { AppendsDated lines.now durability (journal self.old) (journal self.new) result };
+
+    /// Replaces the journal by one with this text, which ends in a line feed. After the text comes a line with the hash
+    /// of the old journal's last part, and perhaps a comment with the time of day. If that fails, the journal is
+    /// unchanged. Fails if there is no journal.
+    fn renew(&mut self, text: &mut Vec<u8>, durability: Durability) -> Result<(), AppendFault>
+        requires line_feed { EndsInLineFeed text.old.items }
+        ensures logged { Logged (calls self.old) (calls self.new) (Renew text.old.items durability result ∷ []) }
+        ensures journal { RenewsDated text.old.items durability (journal self.old) (journal self.new) result };
+
+    /// Returns whether the journal is due to be renewed. Asked after each tick.
+    fn is_renewal_due(&mut self) -> bool
+        ensures calls { calls self.new ≡ calls self.old }
+        ensures journal { journal self.new ≡ journal self.old };
 
     /// Returns the number of failed receives and sends. A count that reaches its maximum stays there.
     fn failures(&self) -> u64

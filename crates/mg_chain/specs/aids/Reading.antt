@@ -1,5 +1,5 @@
 -- The state of reading a text line by line.
-use Rattle.std.specs.Prelude.{◌≡◌, ℕ, ◌<◌, ◌≤◌, true, List, length, Option, Some, IfSome}
+use Rattle.std.specs.Prelude.{◌≡◌, ℕ, ◌<◌, ◌≤◌, ◌++◌, true, List, length, Option, Some, IfSome}
 use Rattle.sha2.specs.declared.Sha256.{Sha256}
 use Rattle.sha2.specs.Hashers.{Holds256}
 use Rattle.mg_chain.specs.declared.seals.Seals.{Seals}
@@ -12,6 +12,7 @@ pub record Reading (text : List ℕ) (rest : Option (List ℕ)) (hasher : Sha256
   pub left : List ℕ
   pub most : ℕ
   pub remaining : rest ≡ Some left
+  pub parts : before ++ left ≡ text
   pub whole : 0 < length left → is_whole before ≡ true
   pub holds : Holds256 hasher (last_part before)
   pub enough : length left ≤ most

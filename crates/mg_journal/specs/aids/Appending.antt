@@ -1,5 +1,5 @@
 -- A journal in a file.
-use Rattle.std.specs.Prelude.{◌≡◌, ℕ, ◌≤◌, Bool, true, false, List, length, take, Result, Ok, Err}
+use Rattle.std.specs.Prelude.{◌≡◌, ℕ, ◌≤◌, Bool, true, false, List, [], length, take, Result, Ok, Err}
 use Rattle.std.specs.Prelude.{IfSome, if◌then◌else◌}
 use Rattle.std.specs.Option.{option_map}
 use Rattle.sha2.specs.declared.Sha256.{Sha256}
@@ -54,3 +54,15 @@ abbrev pub Puts : List ℕ → ℕ → Durability → FileState → FileState
 Puts text len durability old new (Ok done) =
     new ≡ (if is_synced durability then synced (grown old text) else grown old text)
 Puts text len durability old new (Err failed) = Leaves text len old new failed.fault
+
+-- The file after it was replaced by a new file with this text.
+abbrev pub replaced : List ℕ → Durability → FileState → FileState
+replaced text durability old = record {
+  bytes = option_map (λ bytes. text) old.bytes;
+  synced = if is_synced durability then option_map (λ bytes. text) old.bytes else option_map (λ bytes. []) old.synced;
+}
+
+-- The file was replaced by a new file with this text, or is unchanged.
+abbrev pub IsReplaced : {E : Type 0} → List ℕ → Durability → FileState → FileState → Result (Unit {0}) E → Type 0
+IsReplaced text durability old new (Ok done) = new ≡ replaced text durability old
+IsReplaced text durability old new (Err error) = new ≡ old

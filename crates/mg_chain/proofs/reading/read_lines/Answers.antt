@@ -1,13 +1,14 @@
 use Rattle.std.proofs.Common.{rules, ap, arith}
 use Rattle.mg_chain.specs.declared.seals.Seals.{Seals}
-use Rattle.mg_chain.proofs.ReadLemmas.{ends, goes_on, starts}
+use Rattle.mg_chain.proofs.ReadLemmas.{goes_on, linked, starts}
 use Rattle.mg_chain.proofs.reading.read_lines.Goals as goal
 
 pub returns-then-branch-eq0 : goal.returns-then-branch-eq0
 returns-then-branch-eq0 g c = record {
-  value = ends (g.R.Read.remaining c.args.reader.now) (g.R.Read.remaining c.loop-number.reader)
-      c.loop-number.check.chain c.loop-number.check.seals c.seals.result c.loop-number.number
-      c.loop-number.invariant.1 (c.in_ok-read_until.ensures.end c.if-branch-eq0.true) c.seals.ensures.value;
+  value = linked (g.R.Read.remaining c.args.reader.now) (g.R.Read.remaining c.loop-number.reader)
+      c.loop-number.check.chain c.loop-number.check.seals (record { seals = c.seals.result; end = c.end.result })
+      c.loop-number.number c.loop-number.invariant.1 (c.in_ok-read_until.ensures.end c.if-branch-eq0.true)
+      c.seals.ensures.value c.end.ensures.value;
 }
 
 pub loop-number-preserved : goal.loop-number-preserved

@@ -141,6 +141,8 @@ pub fn put_journal<W: Write>(report: &TickReport<'_>, page: &mut Page<'_, W>) ->
     page.gauge("journal_lacking_ticks", help, &journal.lacking)?;
     let help = "Appends to the journal that failed";
     page.counter("journal_appends_failed_total", help, journal.failed)?;
+    let help = "Attempts to replace the journal by a checkpoint that failed";
+    page.counter("journal_renewals_failed_total", help, journal.unrenewed)?;
     let help = "Messages dropped because an append to the journal failed";
     page.counter(
         "control_messages_unjournaled_total",

@@ -5,7 +5,7 @@ use arrayvec::ArrayVec;
 use mg_clock::Timing;
 use mg_core::{Core, Counts, Record, TERMINATIONS, Taken};
 use mg_fence::Fence;
-use mg_serve::{JournalReport, Monitor, TickReport};
+use mg_serve::{Monitor, TickReport};
 use mg_words::mode_talks;
 use std::alloc::{AllocError, Global};
 use std::io::Write;
@@ -20,9 +20,9 @@ type Text = ArrayVec<u8, 512>;
 ///
 /// At the given interval, it prints the totals since the start. It also prints a line for each media port that has had
 /// trouble since the last report, or whose caller was silent for the whole interval. After a stall, it prints how many
-/// packets were too late to be sent. When appends to the journal begin to fail, or work again, it prints a line at
-/// once. At most once a second, it prints how many messages didn't pass the fence. It skips lines that can't be
-/// printed.
+/// packets were too late to be sent. When appends to the journal begin to fail, or work again, and when the journal can't
+/// be renewed, it prints a line at once. At most once a second, it prints how many messages didn't pass the fence. It
+/// skips lines that can't be printed.
 #[derive(Drop)]
 pub struct Reports<'a, E: Write> {
     every: u64,
@@ -71,15 +71,15 @@ impl<'a, E: Write> Reports<'a, E> {
         }
     }
 
-    /// Prints a line if the journal has started to fail or is working again.
-    fn watch_journal(&mut self, report: &JournalReport) {
-        let Some(text) = self.journal.take(report) else {
-            return;
-        };
-        let mut line = Text::new();
-        let _ = writeln!(line, "{text}");
-        write_line(&line, self.writer);
-        let _ = self.writer.flush();
+    /// Prints a line if the journal has started to fail or is working again, and a line if it couldn't be renewed.
+    fn watch_journal(&mut self, report: &TickReport<'_>) {
+        let texts = self.journal.take(&report.journal, report.counts.control);
+        for text in texts.iter().flatten() {
+            let mut line = Text::new();
+            let _ = writeln!(line, "{text}");
+            write_line(&line, self.writer);
+            let _ = self.writer.flush();
+        }
     }
 
     /// Prints a line if messages didn't pass the fence since the last such line, at most once a second.
@@ -172,7 +172,7 @@ impl<'a, E: Write> Monitor for Reports<'a, E> {
     fn end_tick(&mut self, report: &TickReport<'_>) {
         self.ticks = report.counts.ticks;
         self.count_late(report.timing, report.core.outbox().len() as u64);
-        self.watch_journal(&report.journal);
+        self.watch_journal(report);
         self.watch_fence(report);
         if self.is_due() {
             self.print(report);

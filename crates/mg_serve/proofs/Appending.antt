@@ -1,8 +1,8 @@
 -- The appends of a session to its journal: ticks, and then a message.
-use Rattle.std.proofs.Common.{◌≡◌, ℕ, false, is_some, ◌+◌, ◌^◌, ◌<◌, inl, inr, List, [], ◌∷◌, ◌++◌, IsSome, decimal, Option, Some, None, Result, Ok, Err, refl, sym, ap, subst, ◌∙◌, append_assoc, codes}
+use Rattle.std.proofs.Common.{◌≡◌, ℕ, true, false, is_some, ◌+◌, ◌^◌, ◌<◌, inl, inr, List, [], ◌∷◌, ◌++◌, IsSome, decimal, Option, Some, None, Result, Ok, Err, refl, sym, ap, subst, ◌∙◌, append_assoc, codes}
 use Rattle.std.proofs.lemmas.List.{append-nil}
 use Rattle.std.proofs.lemmas.List.Elements.{All-nil, All-cons, All-append}
-use Rattle.mg_fence.specs.declared.fence.Fence.{Fence}
+use Rattle.mg_serve.specs.declared.fencing.Fencing.{Fencing}
 use Rattle.mg_journal.specs.declared.append_fault.AppendFault.{AppendFault}
 use Rattle.mg_journal.specs.declared.durability.Durability.{Durability}
 use Rattle.mg_journal.specs.declared.durability.Durability.TheVariants.{Written}
@@ -19,9 +19,10 @@ use Rattle.mg_core.specs.Peer.{peer_text}
 use Rattle.mg_core.specs.Recording.{IsDatagram, event_line}
 use Rattle.mg_serve.specs.Journaled.{Lacks, Announces, IsJournaled}
 use Rattle.mg_serve.specs.aids.Tried.{IsTried}
-use Rattle.mg_serve.specs.Session.{IsAppended}
+use Rattle.mg_core.specs.ExceptReceived.{is_oversized}
+use Rattle.mg_serve.proofs.AppendLemmas.{one_as}
 use Rattle.mg_serve.specs.Trace.{TraceEntry, Called, Happened, calls_of}
-use Rattle.mg_serve.specs.aids.Journaling.{AreAppends, AppendsTicks, AppendsBefore, EndsTick, LogsCalls, after_one_tick, with_tick}
+use Rattle.mg_serve.specs.aids.Journaling.{AreAppends, AppendsTicks, AppendsBefore, EndsTick, IsAppended, LogsCalls, after_one_tick, with_tick}
 use Rattle.mg_serve.specs.aids.Outside.{JournalView}
 use Rattle.mg_serve.proofs.JournalLemmas.{after_both, append_tried, journaled_both, message_tried, nothing_journaled, nothing_tried, tried_both}
 use Rattle.mg_serve.proofs.Printing.{calls_both}
@@ -68,7 +69,7 @@ ticks_fail fault before after j k has some small is logged dated =
     subst (λ (v : JournalView). AppendsTicks (Err fault) before after j v) (sym is) (record {
       logs = record { logged = logged; journaled = (after.journal, dated, refl) };
       durability = refl;
-      fence = refl;
+      fencing = refl;
       lacks = ticks_refused fault j.durability j.lacking has some small;
       tries = append_tried j.durability j.untried 0 (ticks_line j.lacking) Written (Err fault) has refl;
     })
@@ -83,7 +84,7 @@ ticks_work before after j k has some small is logged dated =
     (record {
       logs = record { logged = logged; journaled = (after.journal, dated, refl) };
       durability = refl;
-      fence = refl;
+      fencing = refl;
       lacks = ticks_done j.durability j.lacking has some small;
       tries = append_tried j.durability j.untried 0 (ticks_line j.lacking) Written (Ok tt) has refl;
     })
@@ -96,12 +97,12 @@ nothing_appended seen j = record {
   are = All-nil IsAppended;
   logs = record { logged = told_none seen.calls; journaled = refl };
   durability = refl;
-  fence = refl;
+  fencing = refl;
   lacks = nothing_journaled j.durability j.lacking;
   tries = nothing_tried j.durability j.untried;
 }
 
-logs_both : (a b c : PortsSeen) (p q : List TraceEntry) → LogsCalls a b (calls_of p) → LogsCalls b c (calls_of q) →
+pub logs_both : (a b c : PortsSeen) (p q : List TraceEntry) → LogsCalls a b (calls_of p) → LogsCalls b c (calls_of q) →
     LogsCalls a c (calls_of (p ++ q))
 logs_both a b c p q h k = subst (λ (l : List Call). LogsCalls a c l) (sym (calls_both p q)) (record {
   logged = told_both a.calls b.calls c.calls (calls_of p) (calls_of q) h.logged k.logged;
@@ -140,7 +141,7 @@ ticks_then (Ok done) a b c j k m h more =
           (All-cons IsAppended (Called (Append (ticks_line k.lacking) Written (Ok tt))) [] tt (All-nil IsAppended));
       logs = logs_both a b c h.trace last h.logs more.logs;
       durability = more.durability ∙ h.durability;
-      fence = more.fence ∙ h.fence;
+      fencing = more.fencing ∙ h.fencing;
       lacks = subst (λ (l : List TraceEntry). IsJournaled j.durability j.lacking l m.lacking)
           (sym (append-nil (h.trace ++ last))) (then_journaled a b j k m.lacking last h more.lacks);
       tries = subst (λ (l : List TraceEntry). IsTried j.durability j.untried l m.untried)
@@ -153,7 +154,7 @@ ticks_then (Err fault) a b c j k m h more =
       are = (h.trace, ticks_line k.lacking, Written, refl, h.are, inl (k.lacking, refl));
       logs = logs_both a b c h.trace last h.logs more.logs;
       durability = more.durability ∙ h.durability;
-      fence = more.fence ∙ h.fence;
+      fencing = more.fencing ∙ h.fencing;
       lacks = subst (λ (l : List TraceEntry). IsJournaled j.durability j.lacking l m.lacking)
           (sym (append-nil (h.trace ++ last))) (then_journaled a b j k m.lacking last h more.lacks);
       tries = subst (λ (l : List TraceEntry). IsTried j.durability j.untried l m.untried)
@@ -163,23 +164,24 @@ ticks_then (Err fault) a b c j k m h more =
 -- ## Appending a message
 
 message_done : (d : Option Durability) (durable : Durability) (n : ℕ) (source : Peer) (bytes : List ℕ) →
-    d ≡ Some durable → n ≡ 0 → IsDatagram source bytes →
+    d ≡ Some durable → n ≡ 0 → IsDatagram source bytes → is_oversized (events.Control source bytes) ≡ false →
     IsJournaled d n
     (Called (Append (event_line (events.Control source bytes)) durable (Ok tt))
     ∷ Happened (events.Control source bytes) ∷ []) n
-message_done None durable n source bytes is none fits = absurd cc
-message_done (Some wanted) durable n source bytes is none fits = (
+message_done None durable n source bytes is none fits short = absurd cc
+message_done (Some wanted) durable n source bytes is none fits short = (
   Announces source bytes,
-  inr (source, bytes, none, refl, cc, refl, fits),
+  inr (source, bytes, none, refl, cc, refl, fits, short),
   (Lacks 0, (refl, refl), ap Lacks none),
 )
 
 message_refused : (fault : AppendFault) (d : Option Durability) (durable : Durability) (n : ℕ) (source : Peer)
     (bytes : List ℕ) → d ≡ Some durable → n ≡ 0 → IsDatagram source bytes →
+    is_oversized (events.Control source bytes) ≡ false →
     IsJournaled d n (Called (Append (event_line (events.Control source bytes)) durable (Err fault)) ∷ []) n
-message_refused fault None durable n source bytes is none fits = absurd cc
-message_refused fault (Some wanted) durable n source bytes is none fits =
-    (Lacks 0, inr (source, bytes, none, refl, cc, refl, fits), ap Lacks none)
+message_refused fault None durable n source bytes is none fits short = absurd cc
+message_refused fault (Some wanted) durable n source bytes is none fits short =
+    (Lacks 0, inr (source, bytes, none, refl, cc, refl, fits, short), ap Lacks none)
 
 some_is : (d : Option Durability) (durable : Durability) → d ≡ Some durable → IsSome d
 some_is None durable is = absurd cc
@@ -188,10 +190,11 @@ some_is (Some wanted) durable is = refl
 pub announces : (result : Result (Unit {0}) AppendFault) (durable : Durability) (source : Peer) (bytes : List ℕ)
     (a b c : PortsSeen) (j k m : JournalView) → AppendsBefore [] (Ok tt) a b j k → j.durability ≡ Some durable →
     k.lacking ≡ 0 → m ≡ record k { untried = 0 } → IsDatagram source bytes →
+    is_oversized (events.Control source bytes) ≡ false →
     Logged b.calls c.calls (Append (event_line (events.Control source bytes)) durable result ∷ []) →
     AppendsDated (event_line (events.Control source bytes)) durable b.journal c.journal result →
     AppendsBefore (Happened (events.Control source bytes) ∷ []) result a c j m
-announces (Ok done) durable source bytes a b c j k m h is none at fits logged dated =
+announces (Ok done) durable source bytes a b c j k m h is none at fits short logged dated =
     let append = Append (event_line (events.Control source bytes)) durable (Ok tt) in
     let happened = Happened (events.Control source bytes) ∷ [] in
     subst (λ (v : JournalView). AppendsBefore happened (Ok tt) a c j v) (sym at) (record {
@@ -201,18 +204,18 @@ announces (Ok done) durable source bytes a b c j k m h is none at fits logged da
       logs = logs_both a b c h.trace (Called append ∷ []) h.logs
           (record { logged = logged; journaled = (c.journal, dated, refl) });
       durability = h.durability;
-      fence = h.fence;
+      fencing = h.fencing;
       lacks = subst (λ (l : List TraceEntry). IsJournaled j.durability j.lacking l k.lacking)
           (sym (append_assoc h.trace (Called append ∷ []) happened))
           (then_journaled a b j k k.lacking (Called append ∷ happened) h
-          (message_done k.durability durable k.lacking source bytes (h.durability ∙ is) none fits));
+          (message_done k.durability durable k.lacking source bytes (h.durability ∙ is) none fits short));
       tries = subst (λ (l : List TraceEntry). IsTried j.durability j.untried l 0)
           (sym (append_assoc h.trace (Called append ∷ []) happened))
           (then_tried a b j k 0 (Called append ∷ happened) h
           (message_tried k.durability durable k.untried 0 (event_line (events.Control source bytes)) durable (Ok tt) source bytes
           (h.durability ∙ is) refl));
     })
-announces (Err fault) durable source bytes a b c j k m h is none at fits logged dated =
+announces (Err fault) durable source bytes a b c j k m h is none at fits short logged dated =
     let append = Append (event_line (events.Control source bytes)) durable (Err fault) in
     let happened = Happened (events.Control source bytes) ∷ [] in
     subst (λ (v : JournalView). AppendsBefore happened (Err fault) a c j v) (sym at) (record {
@@ -221,11 +224,11 @@ announces (Err fault) durable source bytes a b c j k m h is none at fits logged 
       logs = logs_both a b c h.trace (Called append ∷ []) h.logs
           (record { logged = logged; journaled = (c.journal, dated, refl) });
       durability = h.durability;
-      fence = h.fence;
+      fencing = h.fencing;
       lacks = subst (λ (l : List TraceEntry). IsJournaled j.durability j.lacking l k.lacking)
           (sym (append-nil (h.trace ++ Called append ∷ [])))
           (then_journaled a b j k k.lacking (Called append ∷ []) h
-          (message_refused fault k.durability durable k.lacking source bytes (h.durability ∙ is) none fits));
+          (message_refused fault k.durability durable k.lacking source bytes (h.durability ∙ is) none fits short));
       tries = subst (λ (l : List TraceEntry). IsTried j.durability j.untried l 0)
           (sym (append-nil (h.trace ++ Called append ∷ [])))
           (then_tried a b j k 0 (Called append ∷ []) h
@@ -247,7 +250,7 @@ not_announced followed fault a b j k h = record {
   are = refused_before followed fault h.trace h.are;
   logs = h.logs;
   durability = h.durability;
-  fence = h.fence;
+  fencing = h.fencing;
   lacks = h.lacks;
   tries = h.tries;
 }
@@ -260,12 +263,34 @@ nothing_announced source bytes seen j none = record {
   are = All-nil IsAppended;
   logs = record { logged = told_none seen.calls; journaled = refl };
   durability = refl;
-  fence = refl;
+  fencing = refl;
   lacks = subst (λ (d : Option Durability).
       IsJournaled d j.lacking (Happened (events.Control source bytes) ∷ []) j.lacking) (sym none) (refl, refl);
   tries = subst (λ (d : Option Durability).
       IsTried d j.untried (Happened (events.Control source bytes) ∷ []) j.untried) (sym none) refl;
 }
+
+-- An oversized message is handled without an append.
+pub oversized_unannounced : (source : Peer) (bytes : List ℕ) (seen : PortsSeen) (j : JournalView) →
+    is_oversized (events.Control source bytes) ≡ true →
+    AppendsBefore (Happened (events.Control source bytes) ∷ []) (Ok tt) seen seen j j
+oversized_unannounced source bytes seen j large = record {
+  trace = [];
+  are = All-nil IsAppended;
+  logs = record { logged = told_none seen.calls; journaled = refl };
+  durability = refl;
+  fencing = refl;
+  lacks = lacks j.durability;
+  tries = tries j.durability;
+}
+  where
+    lacks : (d : Option Durability) → IsJournaled d j.lacking (Happened (events.Control source bytes) ∷ []) j.lacking
+    lacks None = (refl, refl)
+    lacks (Some durable) = (Lacks j.lacking, (large, refl), refl)
+
+    tries : (d : Option Durability) → IsTried d j.untried (Happened (events.Control source bytes) ∷ []) j.untried
+    tries None = refl
+    tries (Some durable) = refl
 
 -- ## The end of a tick
 
@@ -283,10 +308,11 @@ tick_then_append result before after j i k few is h =
     let view : i.durability ≡ j.durability = ap (λ (v : JournalView). v.durability) is in
     record {
       appends = Called (Append (ticks_line i.lacking) Written result) ∷ [];
-      may = inr (ticks_line i.lacking, Written, result, refl);
+      failed = (one_as events.Tick result i.lacking).0;
+      may = (one_as events.Tick result i.lacking).1;
       logs = h.logs;
       durability = h.durability ∙ view;
-      fence = h.fence ∙ ap (λ (v : JournalView). v.fence) is;
+      fencing = h.fencing ∙ ap (λ (v : JournalView). v.fencing) is;
       lacks = subst (λ (v : JournalView).
           IsJournaled v.durability v.lacking (Called (Append (ticks_line i.lacking) Written result) ∷ []) k.lacking) is h.lacks;
       in_time = few;
@@ -303,24 +329,25 @@ counted (Some durable) lacking some = refl
 pub tick_alone : (seen : PortsSeen) (j k : JournalView) → j.untried < 10 → k ≡ with_tick j → EndsTick seen seen j k
 tick_alone seen j k few is = subst (λ (v : JournalView). EndsTick seen seen j v) (sym is) (record {
   appends = [];
-  may = inl refl;
+  failed = false;
+  may = refl;
   logs = record { logged = told_none seen.calls; journaled = refl };
   durability = refl;
-  fence = refl;
+  fencing = refl;
   lacks = nothing_journaled j.durability (after_one_tick j.durability j.lacking);
   in_time = few;
   tries = nothing_tried j.durability (after_one_tick j.durability j.untried);
 })
 
-without : (d : Option Durability) (lacking untried : ℕ) (fence : Option Fence) → is_some d ≡ false →
-    record { durability = d; lacking = lacking; untried = untried; fence = fence }
-    ≡ with_tick (record { durability = d; lacking = lacking; untried = untried; fence = fence })
-without None lacking untried fence none = refl
-without (Some durable) lacking untried fence none = absurd cc
+without : (d : Option Durability) (lacking untried : ℕ) (fencing : Fencing) → is_some d ≡ false →
+    record { durability = d; lacking = lacking; untried = untried; fencing = fencing }
+    ≡ with_tick (record { durability = d; lacking = lacking; untried = untried; fencing = fencing })
+without None lacking untried fencing none = refl
+without (Some durable) lacking untried fencing none = absurd cc
 
 -- Without a journal, ticks are not counted.
 pub without_journal : (j : JournalView) → is_some j.durability ≡ false → j ≡ with_tick j
-without_journal j none = without j.durability j.lacking j.untried j.fence none
+without_journal j none = without j.durability j.lacking j.untried j.fencing none
 
 -- With a journal, each tick is counted.
 pub tick_counted : (j : JournalView) → IsSome j.durability →

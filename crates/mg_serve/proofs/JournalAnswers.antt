@@ -1,7 +1,7 @@
 -- An answer is sent right after its message is handled.
-use Rattle.std.proofs.Common.{◌≡◌, ◌⊎◌, inl, inr, ℕ, zero, suc, ◌+◌, Bool, true, false, List, [], ◌∷◌, ◌++◌, length, map, All, Option, Some, None, Ok, Err, refl, sym, ap, subst, ◌∙◌, codes}
+use Rattle.std.proofs.Common.{◌≡◌, ◌⊎◌, inl, inr, ℕ, zero, suc, ◌+◌, Bool, true, false, List, [], ◌∷◌, ◌++◌, length, map, All, Option, Some, None, refl, sym, ap, subst, ◌∙◌, codes}
 use Rattle.std.proofs.lemmas.List.Elements.{All-head, All-tail}
-use Rattle.std.specs.List.{range_with_len}
+use Rattle.std.specs.List.{list_any, range_with_len}
 use Rattle.mg_journal.specs.declared.durability.Durability.{Durability}
 use Rattle.mg_journal.specs.declared.durability.Durability.TheVariants.{Synced}
 use Rattle.mg_journal.specs.Journal.{JournalState}
@@ -9,22 +9,25 @@ use Rattle.mg_words.specs.declared.peer.Peer.{Peer}
 use Rattle.mg_engine.specs.declared.datagram.Datagram.{Datagram}
 use Rattle.mg_core.specs.declared.event.Event.{Event}
 use Rattle.mg_core.specs.declared.event.Event.TheVariants.{Control, Media, Tick}
-use Rattle.mg_core.specs.ExceptReceived.{without_rtp}
+use Rattle.mg_core.specs.ExceptReceived.{is_oversized, lasting}
 use Rattle.mg_core.specs.Recording.{RecordingsAreRead}
 use Rattle.mg_core.specs.Step.{Sent, Packet, answer_to}
 use Rattle.mg_core.specs.World.{World, packets_of}
 use Rattle.mg_ports.specs.declared.call.Call.{Call}
-use Rattle.mg_ports.specs.declared.call.Call.TheVariants.{Receive, Send, BeginTick, Append}
+use Rattle.mg_ports.specs.declared.call.Call.TheVariants.{Receive, Send, BeginTick, Append, Renew}
 use Rattle.mg_ports.specs.declared.receipt.Receipt.TheVariants.{Delivered, Nothing, Failed}
 use Rattle.mg_ports.specs.Journaled.{JournalAfter}
 use Rattle.mg_serve.specs.declared.command.Command.{Command}
 use Rattle.mg_serve.specs.declared.command.Command.TheVariants as commands
 use Rattle.mg_serve.specs.Journaled.{Progress, Lacks, Announces, Advances, IsJournaled, Journals}
-use Rattle.mg_serve.specs.JournalLaws.{IsKept, IsMoment, NothingAnsweredIsForgotten, TellsEvents}
-use Rattle.mg_serve.specs.Session.{Each, Becomes, EndsTurn, HandlesDatagram, HandlesEvent, IsAppended, LacksJournal, MayAppend, Performs, ReceivesDatagram, Session, SocketTurn, event_at, sends_of}
+use Rattle.mg_serve.specs.JournalLaws.{IsKept, IsMoment, NothingAnsweredIsForgotten, TellsEvents, is_renewal}
+use Rattle.mg_serve.proofs.AppendLemmas.{IsAppend, only_appends}
+use Rattle.mg_serve.specs.Session.{Each, Becomes, EndsTurn, HandlesDatagram, HandlesEvent, AppendsFor, MayRenew, Performs, ReceivesDatagram, Session, SocketTurn, event_at, sends_of}
+use Rattle.mg_checkpoint.specs.Checkpoint.{checkpoint_text}
+use Rattle.mg_serve.specs.Renewal.{renewal_text}
 use Rattle.mg_serve.specs.Setup.{Setup, is_admitted}
 use Rattle.mg_serve.specs.Trace.{TraceEntry, Called, Happened, Printed, Noted, Stale, calls_of, events_of_trace}
-use Rattle.mg_serve.proofs.JournalSteps.{Holds, after_parts, journals_parts, quiet_both, start_holds, trace_holds}
+use Rattle.mg_serve.proofs.JournalSteps.{Holds, after_parts, journals_parts, lasts, quiet_both, start_holds, trace_holds, unrenewed_parts}
 use Rattle.mg_serve.proofs.Printing.{calls_both}
 
 -- Each answer in the trace goes to the peer whose message was handled directly before the answer.
@@ -42,6 +45,7 @@ whoever due (Called (Send zero to text) ∷ trace) h =
 whoever due (Called (Send (suc s) to text) ∷ trace) h = h
 whoever due (Called (Receive socket receipt) ∷ trace) h = h
 whoever due (Called (BeginTick timing) ∷ trace) h = h
+whoever due (Called (Renew renewed how result) ∷ trace) h = h
 whoever due (Called (Append lines how result) ∷ trace) h = h
 whoever due (Happened (Control source bytes) ∷ trace) h = h
 whoever due (Happened (Media port source bytes) ∷ trace) h = h
@@ -56,6 +60,7 @@ both due (Called (Send zero to text) ∷ p) q h k = (h.0, both None p q h.1 k)
 both due (Called (Send (suc s) to text) ∷ p) q h k = both None p q h k
 both due (Called (Receive socket receipt) ∷ p) q h k = both None p q h k
 both due (Called (BeginTick timing) ∷ p) q h k = both None p q h k
+both due (Called (Renew renewed how result) ∷ p) q h k = both None p q h k
 both due (Called (Append lines how result) ∷ p) q h k = both None p q h k
 both due (Happened (Control source bytes) ∷ p) q h k = both (Some source) p q h k
 both due (Happened (Media port source bytes) ∷ p) q h k = both None p q h k
@@ -100,29 +105,30 @@ event_follows setup Tick w next p (sent, (are, after), is) =
     follow_as p (Happened Tick ∷ sends_of setup sent) is
     (subst (λ (l : List Sent). Follow (sends_of setup l)) (sym are) (packets_follow setup (packets_of w)))
 
-appended_follow : (p : List TraceEntry) → All IsAppended p → Follow p
-appended_follow [] h = tt
-appended_follow (Called (Append lines how (Ok done)) ∷ p) h = appended_follow p (All-tail IsAppended _ p h)
-appended_follow (Called (Append lines how (Err fault)) ∷ p) h = absurd (All-head IsAppended _ p h)
-appended_follow (Called (Send socket to text) ∷ p) h = absurd (All-head IsAppended _ p h)
-appended_follow (Called (Receive socket receipt) ∷ p) h = absurd (All-head IsAppended _ p h)
-appended_follow (Called (BeginTick timing) ∷ p) h = absurd (All-head IsAppended _ p h)
-appended_follow (Happened event ∷ p) h = absurd (All-head IsAppended _ p h)
-appended_follow (Printed text ∷ p) h = absurd (All-head IsAppended _ p h)
-appended_follow (Noted text ∷ p) h = absurd (All-head IsAppended _ p h)
-appended_follow (Stale source bytes ∷ p) h = absurd (All-head IsAppended _ p h)
+appends_follow : (p : List TraceEntry) → All IsAppend p → Follow p
+appends_follow [] h = tt
+appends_follow (Called (Append lines how result) ∷ p) h = appends_follow p (All-tail IsAppend _ p h)
+appends_follow (Called (Send socket to text) ∷ p) h = absurd (All-head IsAppend _ p h)
+appends_follow (Called (Receive socket receipt) ∷ p) h = absurd (All-head IsAppend _ p h)
+appends_follow (Called (BeginTick timing) ∷ p) h = absurd (All-head IsAppend _ p h)
+appends_follow (Called (Renew renewed how result) ∷ p) h = absurd (All-head IsAppend _ p h)
+appends_follow (Happened event ∷ p) h = absurd (All-head IsAppend _ p h)
+appends_follow (Printed text ∷ p) h = absurd (All-head IsAppend _ p h)
+appends_follow (Noted text ∷ p) h = absurd (All-head IsAppend _ p h)
+appends_follow (Stale source bytes ∷ p) h = absurd (All-head IsAppend _ p h)
 
-handled_follows : (setup : Setup) (event : Event) (w next : World) (p : List TraceEntry)
-    → HandlesEvent setup event w p next ⊎ LacksJournal event w p next → Follow p
-handled_follows setup event w next p (inl h) = event_follows setup event w next p h
-handled_follows setup event w next p (inr (lines, how, fault, is, same, before)) =
-    follow_as p (Called (Append lines how (Err fault)) ∷ Noted (codes "no journal for a control datagram") ∷ []) is tt
+may_follow : (event : Event) (failed : Bool) (p : List TraceEntry) → AppendsFor event failed p → Follow p
+may_follow event failed p h = appends_follow p (only_appends event failed p h)
 
 datagram_follows : (setup : Setup) (socket : ℕ) (event : Event) (w next : World) (p : List TraceEntry)
     → HandlesDatagram setup socket event w p next → Follow p
-datagram_follows setup zero event w next p (appended, others, is, were, h) =
-    follow_as p (appended ++ others) is
-    (both None appended others (appended_follow appended were) (handled_follows setup event w next others h))
+datagram_follows setup zero event w next p (appends, others, is, inl (are, h)) =
+    follow_as p (appends ++ others) is
+    (both None appends others (may_follow event false appends are) (event_follows setup event w next others h))
+datagram_follows setup zero event w next p (appends, others, is, inr (are, (last, same))) =
+    follow_as p (appends ++ others) is
+    (both None appends others (may_follow event true appends are)
+    (follow_as others (Noted (codes "no journal for a control datagram") ∷ []) last tt))
 datagram_follows setup (suc s) event w next p h = event_follows setup event w next p h
 
 become_follows : (admitted : Bool) (setup : Setup) (socket : ℕ) (datagram : Peer × List ℕ) (w next : World) (p : List TraceEntry)
@@ -152,17 +158,20 @@ turn_follows setup socket w next p h = follow_as p (h.received ++ h.last) h.part
     (each_follow (ReceivesDatagram setup socket) (comes_follow setup socket) h.datagrams w next h.received h.arrivals)
     (ends_follow socket (length h.datagrams) h.last h.ends))
 
-may_follow : (p : List TraceEntry) → MayAppend p → Follow p
-may_follow p (inl none) = follow_as p [] none tt
-may_follow p (inr (lines, how, result, is)) = follow_as p (Called (Append lines how result) ∷ []) is tt
+renewal_follows : (setup : Setup) (w : World) (p : List TraceEntry) → MayRenew setup w p → Follow p
+renewal_follows setup w p (inl none) = follow_as p [] none tt
+renewal_follows setup w p (inr (appends, failed, are, reached, how, result, is, fits, restorable)) =
+    let renew = Called (Renew (renewal_text setup.head (checkpoint_text w) reached) how result) in
+    follow_as p (appends ++ renew ∷ []) is (both None appends (renew ∷ []) (may_follow Tick failed appends are) tt)
 
 does_follow : (setup : Setup) (command : Command) (w next : World) (p : List TraceEntry) → Performs setup command w p next
     → Follow p
 does_follow setup commands.Poll w next p h =
     each_follow (SocketTurn setup) (turn_follows setup) (range_with_len 0 (setup.config.slots + 1)) w next p h
-does_follow setup (commands.Tick timing) w next p (happening, appends, is, happens, may) =
-    follow_as p (Called (BeginTick timing) ∷ (happening ++ appends)) is
-    (both None happening appends (event_follows setup Tick w next happening happens) (may_follow appends may))
+does_follow setup (commands.Tick timing) w next p (happening, appends, renewal, is, happens, failed, may, renews) =
+    follow_as p (Called (BeginTick timing) ∷ (happening ++ (appends ++ renewal))) is
+    (both None happening (appends ++ renewal) (event_follows setup Tick w next happening happens)
+    (both None appends renewal (may_follow Tick failed appends may) (renewal_follows setup next renewal renews)))
 does_follow setup commands.Stats w next p (text, is, same) = follow_as p (Printed text ∷ []) is tt
 does_follow setup commands.Quit w next p h = follow_as p [] h.0 tt
 does_follow setup commands.Unknown w next p h = follow_as p (Printed (codes "unknown command") ∷ []) h.0 tt
@@ -206,6 +215,7 @@ answer_at due (Called (Send zero other more) ∷ front) to text rest h = later d
 answer_at due (Called (Send (suc s) other more) ∷ front) to text rest h = later due _ front to (answer_at None front to text rest h)
 answer_at due (Called (Receive socket receipt) ∷ front) to text rest h = later due _ front to (answer_at None front to text rest h)
 answer_at due (Called (BeginTick timing) ∷ front) to text rest h = later due _ front to (answer_at None front to text rest h)
+answer_at due (Called (Renew renewed how result) ∷ front) to text rest h = later due _ front to (answer_at None front to text rest h)
 answer_at due (Called (Append lines how result) ∷ front) to text rest h = later due _ front to (answer_at None front to text rest h)
 answer_at due (Happened (Control source bytes) ∷ front) to text rest h =
     handled due source bytes front to (answer_at (Some source) front to text rest h)
@@ -217,14 +227,16 @@ answer_at due (Stale source bytes ∷ front) to text rest h = later due _ front 
 
 -- ## Nothing answered is forgotten
 
-announced : (durability : Durability) (told happened : List Event) (state next : Progress) (to : Peer) (bytes : List ℕ)
-    (journal : JournalState) → Holds durability told happened state journal
-    → Advances durability state (Happened (Control to bytes)) next
-    → TellsEvents journal (told ++ (happened ++ Control to bytes ∷ [])) × (durability ≡ Synced → journal.synced ≡ journal.text)
-announced durability told happened (Lacks n) next to bytes journal holds step = absurd step
-announced durability told happened (Announces source other) next to bytes journal (tells, works, synced) (is, at) =
+announced : (durability : Durability) (preface : List ℕ) (told happened : List Event) (state next : Progress) (to : Peer) (bytes : List ℕ)
+    (journal : JournalState) → Holds durability preface told happened state journal
+    → Advances durability state (Happened (Control to bytes)) next → is_oversized (Control to bytes) ≡ false
+    → TellsEvents preface journal (told ++ (happened ++ Control to bytes ∷ [])) × (durability ≡ Synced → journal.synced ≡ journal.text)
+announced durability preface told happened (Lacks n) next to bytes journal holds (large, at) short =
+    let wrong : true ≡ false = sym large ∙ short in
+    absurd cc
+announced durability preface told happened (Announces source other) next to bytes journal (tells, works, synced, fits) (is, at) short =
     let same : Control to bytes ≡ Control source other = cc in (
-      subst (λ (e : Event). TellsEvents journal (told ++ (happened ++ e ∷ []))) (sym same) tells,
+      subst (λ (e : Event). TellsEvents preface journal (told ++ (happened ++ e ∷ []))) (sym same) tells,
       synced,
     )
 
@@ -235,47 +247,70 @@ pub journals_of : (setup : Setup) (durability : Durability) (trace : List TraceE
 journals_of setup durability trace lacking has js =
     subst (λ (d : Option Durability). IsJournaled d 0 trace lacking) has js
 
-kept : RecordingsAreRead → (durability : Durability) (told : List Event) (front before : List TraceEntry)
-    (to : Peer) (bytes : List ℕ) (progress : Progress) (start journal : JournalState) → TellsEvents start told
-    → front ≡ before ++ Happened (Control to bytes) ∷ [] → Journals durability (Lacks 0) front progress
-    → JournalAfter (calls_of front) start journal → IsKept durability told front to journal
-kept read durability told front before to bytes progress start journal tells is js after =
+-- After a message that isn't oversized was handled, the journal contains all lasting events so far.
+pub tells_at : RecordingsAreRead → (durability : Durability) (preface : List ℕ) (told : List Event) (before : List TraceEntry)
+    (to : Peer) (bytes : List ℕ) (progress : Progress) (start journal : JournalState) → TellsEvents preface start told
+    → Journals durability (Lacks 0) (before ++ Happened (Control to bytes) ∷ []) progress
+    → list_any is_renewal (calls_of (before ++ Happened (Control to bytes) ∷ [])) ≡ false
+    → JournalAfter (calls_of (before ++ Happened (Control to bytes) ∷ [])) start journal
+    → is_oversized (Control to bytes) ≡ false
+    → TellsEvents preface journal (told ++ lasting (events_of_trace (before ++ Happened (Control to bytes) ∷ [])))
+    × (durability ≡ Synced → journal.synced ≡ journal.text)
+tells_at read durability preface told before to bytes progress start journal tells js stays after short =
     let message = Happened (Control to bytes) in
-    let (state, first, (next, step, last)) =
-    journals_parts durability (Lacks 0) progress before (message ∷ [])
-    (subst (λ (l : List TraceEntry). Journals durability (Lacks 0) l progress) is js) in
+    let (state, first, (next, step, last)) = journals_parts durability (Lacks 0) progress before (message ∷ []) js in
     let (mid, past, same) =
     after_parts (calls_of before) [] start journal
-    (subst (λ (l : List Call). JournalAfter l start journal) (ap calls_of is ∙ calls_both before (message ∷ [])) after) in
+    (subst (λ (l : List Call). JournalAfter l start journal) (calls_both before (message ∷ [])) after) in
     let holds =
-    trace_holds read durability told [] before (Lacks 0) state start mid (start_holds durability told start tells) first past
+    trace_holds read durability preface told [] before (Lacks 0) state start mid (start_holds durability preface told start tells) first
+    (unrenewed_parts before (message ∷ []) stays).0 past
     in
-    let here = announced durability told (without_rtp (events_of_trace before)) state next to bytes mid holds step in
-    let are : without_rtp (events_of_trace front) ≡ without_rtp (events_of_trace before) ++ Control to bytes ∷ [] =
-    ap (λ (l : List TraceEntry). without_rtp (events_of_trace l)) is ∙ quiet_both before (message ∷ []) in
-    record {
-      before = before;
-      bytes = bytes;
-      answers = is;
-      tells = subst (λ (j : JournalState). TellsEvents j (told ++ without_rtp (events_of_trace front))) (sym same)
-          (subst (λ (l : List Event). TellsEvents mid (told ++ l)) (sym are) here.0);
-      synced = λ sync. subst (λ (j : JournalState). j.synced ≡ j.text) (sym same) (here.1 sync);
-    }
+    let here = announced durability preface told (lasting (events_of_trace before)) state next to bytes mid holds step short in
+    let are : lasting (events_of_trace (before ++ message ∷ [])) ≡ lasting (events_of_trace before) ++ Control to bytes ∷ [] =
+    quiet_both before (message ∷ []) ∙ ap (λ (l : List Event). lasting (events_of_trace before) ++ l) (lasts to bytes [] short) in (
+      subst (λ (j : JournalState). TellsEvents preface j (told ++ lasting (events_of_trace (before ++ message ∷ [])))) (sym same)
+          (subst (λ (l : List Event). TellsEvents preface mid (told ++ l)) (sym are) here.0),
+      λ sync. subst (λ (j : JournalState). j.synced ≡ j.text) (sym same) (here.1 sync),
+    )
 
-forgotten : RecordingsAreRead → (setup : Setup) (durability : Durability) (w : World) (told : List Event)
+kept : RecordingsAreRead → (durability : Durability) (preface : List ℕ) (told : List Event) (front before : List TraceEntry)
+    (to : Peer) (bytes : List ℕ) (progress : Progress) (start journal : JournalState) → TellsEvents preface start told
+    → front ≡ before ++ Happened (Control to bytes) ∷ [] → Journals durability (Lacks 0) front progress
+    → list_any is_renewal (calls_of front) ≡ false → JournalAfter (calls_of front) start journal
+    → IsKept durability preface told front to journal
+kept read durability preface told front before to bytes progress start journal tells is js stays after = record {
+  before = before;
+  bytes = bytes;
+  answers = is;
+  tells = λ short. subst (λ (l : List TraceEntry). TellsEvents preface journal (told ++ lasting (events_of_trace l))) (sym is)
+      (both_at short).0;
+  synced = λ short. (both_at short).1;
+}
+  where
+    both_at : is_oversized (Control to bytes) ≡ false
+        → TellsEvents preface journal (told ++ lasting (events_of_trace (before ++ Happened (Control to bytes) ∷ [])))
+        × (durability ≡ Synced → journal.synced ≡ journal.text)
+    both_at short =
+        tells_at read durability preface told before to bytes progress start journal tells
+        (subst (λ (l : List TraceEntry). Journals durability (Lacks 0) l progress) is js)
+        (subst (λ (l : List TraceEntry). list_any is_renewal (calls_of l) ≡ false) is stays)
+        (subst (λ (l : List TraceEntry). JournalAfter (calls_of l) start journal) is after) short
+
+forgotten : RecordingsAreRead → (setup : Setup) (durability : Durability) (preface : List ℕ) (w : World) (told : List Event)
     (front rest : List TraceEntry) (journal : JournalState) (to : Peer)
-    → IsMoment setup durability w told front rest journal → IsAnswer None front to → IsKept durability told front to journal
-forgotten read setup durability w told front rest journal to moment (inl (none, wrong)) =
+    → IsMoment setup durability preface w told front rest journal → IsAnswer None front to → IsKept durability preface told front to journal
+forgotten read setup durability preface w told front rest journal to moment (inl (none, wrong)) =
     let never : None ≡ Some to = wrong in
     absurd cc
-forgotten read setup durability w told front rest journal to moment (inr (before, bytes, is)) =
+forgotten read setup durability preface w told front rest journal to moment (inr (before, bytes, is)) =
     let (progress, js, others) =
     journals_parts durability (Lacks 0) (Lacks moment.lacking) front rest
     (journals_of setup durability (front ++ rest) moment.lacking moment.has moment.lacks) in
-    kept read durability told front before to bytes progress moment.start journal moment.tells is js moment.after
+    kept read durability preface told front before to bytes progress moment.start journal moment.tells is js moment.unrenewed moment.after
 
 pub nothing_is_forgotten : RecordingsAreRead → NothingAnsweredIsForgotten
-nothing_is_forgotten read setup durability w told front rest journal to text moment =
-    forgotten read setup durability w told front (Called (Send 0 to text) ∷ rest) journal to moment
+nothing_is_forgotten read setup durability preface w told front rest journal to text moment =
+    forgotten read setup durability preface w told front (Called (Send 0 to text) ∷ rest) journal to moment
     (answer_at None front to text rest
     (session_follows setup moment.commands w moment.last (front ++ Called (Send 0 to text) ∷ rest) moment.session))

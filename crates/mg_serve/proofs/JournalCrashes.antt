@@ -5,45 +5,22 @@ use Rattle.mg_journal.specs.Journal.{JournalState}
 use Rattle.mg_words.specs.declared.peer.Peer.{Peer}
 use Rattle.mg_core.specs.declared.event.Event.{Event}
 use Rattle.mg_core.specs.declared.event.Event.TheVariants.{Control, Tick}
-use Rattle.mg_core.specs.ExceptReceived.{AgreeExceptReceived, RtpChangesSpeechOnly, without_rtp}
+use Rattle.mg_core.specs.ExceptReceived.{AgreeExceptReceived, RtpChangesSpeechOnly, lasting}
 use Rattle.mg_core.specs.Recording.{RecordingsAreRead}
+use Rattle.mg_core.specs.Base.{BasesStayBases}
+use Rattle.mg_checkpoint.specs.Checkpoint.{CheckpointsLoseSpeechOnly}
 use Rattle.mg_core.specs.Step.{Sent, Packet, Run, Step}
-use Rattle.mg_core.specs.World.{World, packets_of, start_of, world_after_tick, world_after_ticks}
+use Rattle.mg_core.specs.World.{World, packets_of, world_after_tick, world_after_ticks}
 use Rattle.mg_core.proofs.RunLemmas.{run_both}
-use Rattle.mg_ports.specs.declared.call.Call.{Call}
-use Rattle.mg_ports.specs.Journaled.{JournalAfter}
 use Rattle.mg_serve.specs.Journaled.{Progress, Lacks, Announces, Journals}
-use Rattle.mg_serve.specs.JournalLaws.{CrashesLoseSpeechOnly, EachPartIsAMoment, IsMoment, LivesFollow, LosesSpeech, LosesTicks, TellsEvents, ticks_lacking}
+use Rattle.mg_serve.specs.JournalLaws.{CrashesLoseSpeechOnly, IsMoment, RenewalsFollow, LosesSpeech, LosesTicks, TellsEvents, ticks_lacking}
 use Rattle.mg_serve.specs.Setup.{Setup}
 use Rattle.mg_serve.specs.Theorems.{SendsAreARun, SessionsAreRuns}
-use Rattle.mg_serve.specs.Trace.{TraceEntry, calls_of, events_of_trace}
+use Rattle.mg_serve.specs.Trace.{TraceEntry, events_of_trace}
 use Rattle.mg_serve.proofs.JournalAnswers.{journals_of}
-use Rattle.mg_serve.proofs.Printing.{calls_both}
 use Rattle.mg_serve.proofs.ReadBack.{OneOutcome}
 use Rattle.mg_serve.proofs.Runs.{events_both}
-use Rattle.mg_serve.proofs.JournalSteps.{Holds, after_parts, journals_parts, loses_more, start_holds, trace_holds}
-
--- ## Moments of a session
-
-pub each_part : EachPartIsAMoment
-each_part setup durability commands w last front rest told lacking old new has tells session lacks journaled =
-    let (mid, first, later) =
-    after_parts (calls_of front) (calls_of rest) old new
-    (subst (λ (l : List Call). JournalAfter l old new) (calls_both front rest) journaled) in (
-      mid,
-      record {
-        commands = commands;
-        last = last;
-        lacking = lacking;
-        start = old;
-        has = has;
-        session = session;
-        lacks = lacks;
-        tells = tells;
-        after = first;
-      },
-      later,
-    )
+use Rattle.mg_serve.proofs.JournalSteps.{Holds, journals_parts, loses_more, start_holds, trace_holds}
 
 -- ## Splitting a run in two
 
@@ -72,15 +49,15 @@ front_run setup w last front rest ran =
 
 -- ## The events in a journal
 
-abbrev pub ToldAt : List Event → List Event → Progress → JournalState → Type 0
-ToldAt told happened progress journal =
-    (written : List Event) × TellsEvents journal (told ++ written) × LosesTicks (ticks_lacking progress) happened written
+abbrev pub ToldAt : (preface : List ℕ) → List Event → List Event → Progress → JournalState → Type 0
+ToldAt preface told happened progress journal =
+    (written : List Event) × TellsEvents preface journal (told ++ written) × LosesTicks (ticks_lacking progress) happened written
 
-told_at : (durability : Durability) (told happened : List Event) (progress : Progress) (journal : JournalState)
-    → Holds durability told happened progress journal → ToldAt told happened progress journal
-told_at durability told happened (Lacks n) journal (events, tells, stands) =
+told_at : (durability : Durability) (preface : List ℕ) (told happened : List Event) (progress : Progress) (journal : JournalState)
+    → Holds durability preface told happened progress journal → ToldAt preface told happened progress journal
+told_at durability preface told happened (Lacks n) journal (events, tells, stands) =
     (events, tells, loses_more n happened events journal.is_broken stands)
-told_at durability told happened (Announces source bytes) journal (tells, works, synced) = (
+told_at durability preface told happened (Announces source bytes) journal (tells, works, synced, short) = (
   happened ++ Control source bytes ∷ [],
   tells,
   record {
@@ -93,20 +70,21 @@ told_at durability told happened (Announces source bytes) journal (tells, works,
 )
 
 -- At a moment of a session, the journal has the events that happened, except for RTP datagrams and lost ticks.
-pub moment_told : RecordingsAreRead → (setup : Setup) (durability : Durability) (w : World)
+pub moment_told : RecordingsAreRead → (setup : Setup) (durability : Durability) (preface : List ℕ) (w : World)
     (told : List Event) (front rest : List TraceEntry) (journal : JournalState)
-    → IsMoment setup durability w told front rest journal
+    → IsMoment setup durability preface w told front rest journal
     → (progress : Progress) × Journals durability (Lacks 0) front progress
-    × ToldAt told (without_rtp (events_of_trace front)) progress journal
-moment_told read setup durability w told front rest journal moment =
+    × ToldAt preface told (lasting (events_of_trace front)) progress journal
+moment_told read setup durability preface w told front rest journal moment =
     let (progress, js, others) =
     journals_parts durability (Lacks 0) (Lacks moment.lacking) front rest
     (journals_of setup durability (front ++ rest) moment.lacking moment.has moment.lacks) in (
       progress,
       js,
-      told_at durability told (without_rtp (events_of_trace front)) progress journal
-          (trace_holds read durability told [] front (Lacks 0) progress moment.start journal
-          (start_holds durability told moment.start moment.tells) js moment.after),
+      told_at durability preface told (lasting (events_of_trace front)) progress journal
+          (trace_holds read durability preface told [] front (Lacks 0) progress moment.start journal
+          (start_holds durability preface told moment.start moment.tells) js
+          moment.unrenewed moment.after),
     )
 
 -- ## Resuming after a crash
@@ -114,17 +92,17 @@ moment_told read setup durability w told front rest journal moment =
 -- After the lost ticks, the worlds agree except for what was received.
 pub after_lost : RtpChangesSpeechOnly → (w v now before : World) (events kept : List Event) (ticks : ℕ) (sent others : List Sent)
     → AgreeExceptReceived w v → Run w events sent now → Run v kept others before
-    → without_rtp events ≡ kept ++ replicate ticks Tick → AgreeExceptReceived now (world_after_ticks ticks before)
+    → lasting events ≡ kept ++ replicate ticks Tick → AgreeExceptReceived now (world_after_ticks ticks before)
 after_lost law w v now before events kept ticks sent others agree run quiet lost =
     let (more, ticked) = ticks_run ticks before in
-    let all : Run v (without_rtp events) (others ++ more) (world_after_ticks ticks before) =
+    let all : Run v (lasting events) (others ++ more) (world_after_ticks ticks before) =
     subst (λ (l : List Event). Run v l (others ++ more) (world_after_ticks ticks before)) (sym lost)
     (run_both v before (world_after_ticks ticks before) kept (replicate ticks Tick) others more quiet ticked) in
     law w v now (world_after_ticks ticks before) events sent (others ++ more) agree run all
 
 pub resumed_as : RtpChangesSpeechOnly → (w v now resumed : World) (events written : List Event) (lacking : ℕ)
     (sent others : List Sent) → AgreeExceptReceived w v → Run w events sent now → Run v written others resumed
-    → (loses : LosesTicks lacking (without_rtp events) written)
+    → (loses : LosesTicks lacking (lasting events) written)
     → (written ≡ loses.kept)
     ⊎ ((source : Peer) × (bytes : List ℕ) × (written ≡ loses.kept ++ Control source bytes ∷ []))
     → LosesSpeech lacking now resumed
@@ -150,11 +128,11 @@ resumed_as law w v now resumed events written lacking sent others agree run told
 
 pub crashes_lose_speech : RecordingsAreRead → SessionsAreRuns → OneOutcome → RtpChangesSpeechOnly
     → CrashesLoseSpeechOnly
-crashes_lose_speech read runs one law setup durability w v told others front rest journal moment before agree =
+crashes_lose_speech read runs one law setup durability preface base w v told others front rest journal moment before agree =
     let (sent, now, run) =
     front_run setup w moment.last front rest
     (runs setup moment.commands w moment.last (front ++ rest) moment.session) in
-    let (progress, js, (written, tells, loses)) = moment_told read setup durability w told front rest journal moment in
+    let (progress, js, (written, tells, loses)) = moment_told read setup durability preface w told front rest journal moment in
     record {
       now = now;
       sent = sent;
@@ -165,27 +143,13 @@ crashes_lose_speech read runs one law setup durability w v told others front res
       tells = tells;
       loses = loses;
       resumes = λ resumed all ran.
-          let (a, b, mid, first, then) = split_run (start_of setup.config) resumed told written all ran in
-          let same : mid ≡ v = (one (start_of setup.config) told a others mid v first before).1 in
+          let (a, b, mid, first, then) = split_run base resumed told written all ran in
+          let same : mid ≡ v = (one base told a others mid v first before).1 in
           resumed_as law w v now resumed (events_of_trace front) written (ticks_lacking progress) sent b agree run
           (subst (λ (x : World). Run x written b resumed) same then) loses loses.wrote;
     }
 
-agrees_with_itself : (w : World) → AgreeExceptReceived w w
-agrees_with_itself w = record {
-  config = refl;
-  rooms = refl;
-  edits = refl;
-  media = refl;
-  replies = refl;
-  control = refl;
-  ticks = refl;
-}
-
-pub lives_follow : LivesFollow
-lives_follow config told sent resumed missed run =
-    let (more, ticked) = ticks_run missed resumed in
-    let w = world_after_ticks missed resumed in (
-      (sent ++ more, run_both (start_of config) resumed w told (replicate missed Tick) sent more run ticked),
-      agrees_with_itself w,
-    )
+pub renewals_follow : BasesStayBases → CheckpointsLoseSpeechOnly → RenewalsFollow
+renewals_follow stay lose base start events sent is run =
+    let (begins, same) = stay base start events sent is run in
+    (begins, same, lose start)

@@ -1,23 +1,24 @@
 -- A truncated journal contains the events up to some moment.
-use Rattle.std.proofs.Common.{◌≡◌, ◌⊎◌, inl, inr, ℕ, false, true, List, [], ◌∷◌, ◌++◌, replicate, Option, IfSome, refl, sym, ap, subst, ◌∙◌, append_assoc, append-nil, arith}
+use Rattle.std.proofs.Common.{◌≡◌, ◌⊎◌, inl, inr, ℕ, Bool, true, false, List, [], ◌∷◌, ◌++◌, replicate, Option, refl, sym, ap, subst, ◌∙◌, append_assoc, append-nil, arith}
+use Rattle.std.proofs.lemmas.List.{append_cancel_left}
 use Rattle.mg_journal.specs.declared.durability.Durability.{Durability}
 use Rattle.mg_journal.specs.Journal.{JournalState}
 use Rattle.mg_words.specs.declared.peer.Peer.{Peer}
 use Rattle.mg_core.specs.declared.event.Event.{Event}
 use Rattle.mg_core.specs.declared.event.Event.TheVariants.{Control, Media, Tick}
-use Rattle.mg_core.specs.ExceptReceived.{AgreeExceptReceived, RtpChangesSpeechOnly, without_rtp}
+use Rattle.mg_core.specs.ExceptReceived.{AgreeExceptReceived, RtpChangesSpeechOnly, is_oversized, lasting}
 use Rattle.mg_core.specs.Recording.{RecordingsAreRead}
 use Rattle.mg_core.specs.Step.{Sent, Run}
-use Rattle.mg_core.specs.World.{World, start_of}
-use Rattle.mg_serve.specs.JournalLaws.{AnyCutIsAMoment, CutsResumeAMoment, IsMoment, IsScriptOf, LosesTicks, ResumesAt, WereTold}
+use Rattle.mg_core.specs.World.{World}
+use Rattle.mg_serve.specs.JournalLaws.{AnyCutIsAMoment, CutsResumeAMoment, IsJournalOf, IsMoment, LosesTicks, ResumesAt, WereTold}
 use Rattle.mg_serve.specs.Setup.{Setup}
 use Rattle.mg_serve.specs.Theorems.{SessionsAreRuns}
 use Rattle.mg_serve.specs.Trace.{TraceEntry, Called, Happened, Printed, Noted, Stale, events_of_trace}
 use Rattle.mg_serve.proofs.JournalCrashes.{front_run, moment_told, resumed_as, split_run}
 use Rattle.mg_serve.proofs.ReadBack.{OneOutcome}
 use Rattle.mg_serve.proofs.Runs.{events_both}
-use Rattle.mg_serve.proofs.JournalSteps.{one_front}
-use Rattle.mg_serve.proofs.JournalText.{cut_script, marked}
+use Rattle.mg_serve.proofs.JournalSteps.{lasts, lasts_not, one_front}
+use Rattle.mg_serve.proofs.JournalText.{Tells, cut_script}
 
 -- ## Two ways to split a list
 
@@ -45,16 +46,16 @@ apart (e ∷ a) b (f ∷ c) d is =
 abbrev IsPast : List TraceEntry → List Event → Type 0
 IsPast front events =
     (past : List TraceEntry) × (later : List TraceEntry) × (front ≡ past ++ later)
-    × (without_rtp (events_of_trace past) ≡ events)
+    × (lasting (events_of_trace past) ≡ events)
 
 after_quiet : (one : TraceEntry) (front : List TraceEntry) (events : List Event)
-    → ((past : List TraceEntry) → without_rtp (events_of_trace (one ∷ past)) ≡ without_rtp (events_of_trace past))
+    → ((past : List TraceEntry) → lasting (events_of_trace (one ∷ past)) ≡ lasting (events_of_trace past))
     → IsPast front events → IsPast (one ∷ front) events
 after_quiet one front events quiet (past, later, parts, are) =
     (one ∷ past, later, ap (λ (l : List TraceEntry). one ∷ l) parts, quiet past ∙ are)
 
 after_event : (event first : Event) (front : List TraceEntry) (events : List Event)
-    → ((past : List TraceEntry) → without_rtp (events_of_trace (Happened event ∷ past)) ≡ event ∷ without_rtp (events_of_trace past))
+    → ((past : List TraceEntry) → lasting (events_of_trace (Happened event ∷ past)) ≡ event ∷ lasting (events_of_trace past))
     → event ≡ first → IsPast front events → IsPast (Happened event ∷ front) (first ∷ events)
 after_event event first front events loud same (past, later, parts, are) = (
   Happened event ∷ past,
@@ -63,8 +64,23 @@ after_event event first front events loud same (past, later, parts, are) = (
   loud past ∙ (ap (λ (l : List Event). event ∷ l) are ∙ ap (λ (e : Event). e ∷ events) same),
 )
 
--- A trace has a moment up to which exactly these events happened, not counting RTP datagrams.
-past_of : (front : List TraceEntry) (events rest : List Event) → without_rtp (events_of_trace front) ≡ events ++ rest
+after_control : (source : Peer) (bytes : List ℕ) (e : Event) (front : List TraceEntry) (events rest : List Event) (large : Bool)
+    → is_oversized (Control source bytes) ≡ large
+    → lasting (events_of_trace (Happened (Control source bytes) ∷ front)) ≡ e ∷ (events ++ rest)
+    → ((es : List Event) → lasting (events_of_trace front) ≡ es ++ rest → IsPast front es)
+    → IsPast (Happened (Control source bytes) ∷ front) (e ∷ events)
+after_control source bytes e front events rest true large is past =
+    after_quiet (Happened (Control source bytes)) front (e ∷ events) (λ before. lasts_not source bytes (events_of_trace before) large)
+    (past (e ∷ events) (sym (lasts_not source bytes (events_of_trace front) large) ∙ is))
+after_control source bytes e front events rest false short is past =
+    let both : Control source bytes ∷ lasting (events_of_trace front) ≡ e ∷ (events ++ rest) =
+    sym (lasts source bytes (events_of_trace front) short) ∙ is in
+    let same : Control source bytes ≡ e = cc in
+    let left : lasting (events_of_trace front) ≡ events ++ rest = cc in
+    after_event (Control source bytes) e front events (λ before. lasts source bytes (events_of_trace before) short) same (past events left)
+
+-- A trace has a moment up to which exactly these lasting events happened.
+past_of : (front : List TraceEntry) (events rest : List Event) → lasting (events_of_trace front) ≡ events ++ rest
     → IsPast front events
 past_of front [] rest is = ([], front, refl, refl)
 past_of [] (e ∷ events) rest is =
@@ -74,14 +90,12 @@ past_of [] (e ∷ events) rest is =
 past_of (Called call ∷ front) (e ∷ events) rest is =
     after_quiet (Called call) front (e ∷ events) (λ past. refl) (past_of front (e ∷ events) rest is)
 past_of (Happened (Control source bytes) ∷ front) (e ∷ events) rest is =
-    let same : Control source bytes ≡ e = cc in
-    let left : without_rtp (events_of_trace front) ≡ events ++ rest = cc in
-    after_event (Control source bytes) e front events (λ past. refl) same (past_of front events rest left)
+    after_control source bytes e front events rest (is_oversized (Control source bytes)) refl is (λ es h. past_of front es rest h)
 past_of (Happened (Media port source bytes) ∷ front) (e ∷ events) rest is =
     after_quiet (Happened (Media port source bytes)) front (e ∷ events) (λ past. refl) (past_of front (e ∷ events) rest is)
 past_of (Happened Tick ∷ front) (e ∷ events) rest is =
     let same : Tick ≡ e = cc in
-    let left : without_rtp (events_of_trace front) ≡ events ++ rest = cc in
+    let left : lasting (events_of_trace front) ≡ events ++ rest = cc in
     after_event Tick e front events (λ past. refl) same (past_of front events rest left)
 past_of (Printed text ∷ front) (e ∷ events) rest is =
     after_quiet (Printed text) front (e ∷ events) (λ past. refl) (past_of front (e ∷ events) rest is)
@@ -95,7 +109,7 @@ past_of (Stale source bytes ∷ front) (e ∷ events) rest is =
 -- Each prefix of the kept events is what had happened by some moment.
 first_kept : (told : List Event) (front : List TraceEntry) (first more kept rest : List Event) (ticks : ℕ)
     → first ≡ told ++ more → kept ≡ more ++ rest
-    → without_rtp (events_of_trace front) ≡ kept ++ replicate ticks Tick → WereTold told front first
+    → lasting (events_of_trace front) ≡ kept ++ replicate ticks Tick → WereTold told front first
 first_kept told front first more kept rest ticks is parts lost =
     let (past, later, here, are) =
     past_of front more (rest ++ replicate ticks Tick)
@@ -105,7 +119,7 @@ first_kept told front first more kept rest ticks is parts lost =
 -- At some moment, the journal contained exactly the kept events and a message that was announced.
 with_message : (told : List Event) (front : List TraceEntry) (first more kept : List Event) (ticks : ℕ) (source : Peer)
     (bytes : List ℕ) → first ≡ told ++ more → more ≡ kept ++ Control source bytes ∷ []
-    → without_rtp (events_of_trace front) ≡ kept ++ replicate ticks Tick → WereTold told front first
+    → lasting (events_of_trace front) ≡ kept ++ replicate ticks Tick → WereTold told front first
 with_message told front first more kept ticks source bytes is announced lost =
     let message = Control source bytes ∷ [] in
     let (past, later, here, are) = past_of front kept (replicate ticks Tick) lost in
@@ -122,7 +136,7 @@ with_message told front first more kept ticks source bytes is announced lost =
     )
 
 message_cut : (told : List Event) (front : List TraceEntry) (first more others kept : List Event) (ticks : ℕ) (source : Peer)
-    (bytes : List ℕ) → first ≡ told ++ more → without_rtp (events_of_trace front) ≡ kept ++ replicate ticks Tick
+    (bytes : List ℕ) → first ≡ told ++ more → lasting (events_of_trace front) ≡ kept ++ replicate ticks Tick
     → Apart kept (Control source bytes ∷ []) more others → WereTold told front first
 message_cut told front first more others kept ticks source bytes is lost (inl (rest, parts, left)) =
     first_kept told front first more kept rest ticks is parts lost
@@ -138,7 +152,7 @@ message_cut told front first more others kept ticks source bytes is lost (inr (e
 
 more_cut : (told : List Event) (front : List TraceEntry) (first more others written : List Event) (lacking : ℕ)
     → first ≡ told ++ more → written ≡ more ++ others
-    → (loses : LosesTicks lacking (without_rtp (events_of_trace front)) written)
+    → (loses : LosesTicks lacking (lasting (events_of_trace front)) written)
     → (written ≡ loses.kept)
     ⊎ ((source : Peer) × (bytes : List ℕ) × (written ≡ loses.kept ++ Control source bytes ∷ []))
     → WereTold told front first
@@ -149,21 +163,25 @@ more_cut told front first more others written lacking is parts loses (inr (sourc
     (apart loses.kept (Control source bytes ∷ []) more others (sym same ∙ parts))
 
 were_told : (told : List Event) (front : List TraceEntry) (first others written : List Event) (lacking : ℕ)
-    → LosesTicks lacking (without_rtp (events_of_trace front)) written → Apart told written first others
+    → LosesTicks lacking (lasting (events_of_trace front)) written → Apart told written first others
     → WereTold told front first
 were_told told front first others written lacking loses (inl (rest, parts, left)) = inl (rest, parts)
 were_told told front first others written lacking loses (inr (more, is, parts)) =
     more_cut told front first more others written lacking is parts loses loses.wrote
 
+same_tail : (preface : List ℕ) (a b text : List ℕ) → text ≡ preface ++ a → text ≡ preface ++ b → a ≡ b
+same_tail preface a b text one other = append_cancel_left preface a b (sym one ∙ other)
+
 pub any_cut : RecordingsAreRead → AnyCutIsAMoment
-any_cut read setup durability w told front rest journal text cut lost moment known parts =
-    let (progress, js, (written, tells, loses)) = moment_told read setup durability w told front rest journal moment in
-    let script : IsScriptOf text (told ++ written) =
-    (subst (λ (o : Option (List ℕ)). IfSome o (λ t. IsScriptOf t (told ++ written) × (marked t ≡ true))) known tells).0 in
-    let (first, others, apart_is, front_script) = cut_script false text cut lost (told ++ written) parts script in (
+any_cut read setup durability preface w told front rest journal text cut lost moment known parts =
+    let (progress, js, (written, tells, loses)) = moment_told read setup durability preface w told front rest journal moment in
+    let (tail, is, script, marks) =
+    subst (λ (o : Option (List ℕ)). Tells preface o (told ++ written)) known tells in
+    let (first, others, apart_is, front_script) =
+    cut_script false tail cut lost (told ++ written) (same_tail preface tail (cut ++ lost) text is parts) script in (
       first,
       others,
-      subst (λ (l : List Event). IsScriptOf text l) apart_is script,
+      subst (λ (l : List Event). IsJournalOf preface text l) apart_is (tail, is, script, marks),
       front_script,
       were_told told front first others written _ loses (apart told written first others apart_is),
     )
@@ -171,13 +189,13 @@ any_cut read setup durability w told front rest journal text cut lost moment kno
 -- ## Resuming from a truncated journal
 
 module _ (runs : SessionsAreRuns) (one : OneOutcome) (law : RtpChangesSpeechOnly) where
-  resumes_at : (setup : Setup) (durability : Durability) (w v : World) (told : List Event) (others : List Sent)
+  resumes_at : (setup : Setup) (durability : Durability) (preface : List ℕ) (base w v : World) (told : List Event) (others : List Sent)
       (front rest : List TraceEntry) (journal : JournalState) (first : List Event)
-      → IsMoment setup durability w told front rest journal → Run (start_of setup.config) told others v
+      → IsMoment setup durability preface w told front rest journal → Run base told others v
       → AgreeExceptReceived w v → (past later : List TraceEntry) → front ≡ past ++ later → (written : List Event)
-      → first ≡ told ++ written → LosesTicks 0 (without_rtp (events_of_trace past)) written
-      → ResumesAt setup.config w front first
-  resumes_at setup durability w v told others front rest journal first moment before agree past later parts written is loses =
+      → first ≡ told ++ written → LosesTicks 0 (lasting (events_of_trace past)) written
+      → ResumesAt base w front first
+  resumes_at setup durability preface base w v told others front rest journal first moment before agree past later parts written is loses =
       let (a, now, whole) =
       front_run setup w moment.last front rest (runs setup moment.commands w moment.last (front ++ rest) moment.session) in
       let (sent, tail, then_world, run, more) =
@@ -192,22 +210,22 @@ module _ (runs : SessionsAreRuns) (one : OneOutcome) (law : RtpChangesSpeechOnly
         run = run;
         resumes = λ resumed all ran.
             let (s, t, mid, start, rest_run) =
-            split_run (start_of setup.config) resumed told written all
-            (subst (λ (l : List Event). Run (start_of setup.config) l all resumed) is ran) in
-            let same : mid ≡ v = (one (start_of setup.config) told s others mid v start before).1 in
+            split_run base resumed told written all
+            (subst (λ (l : List Event). Run base l all resumed) is ran) in
+            let same : mid ≡ v = (one base told s others mid v start before).1 in
             resumed_as law w v then_world resumed (events_of_trace past) written 0 sent t agree run
             (subst (λ (x : World). Run x written t resumed) same rest_run) loses loses.wrote;
       }
 
   pub cuts_resume : CutsResumeAMoment
-  cuts_resume setup durability w v told others front rest journal first moment before agree (inl earlier) = inl earlier
-  cuts_resume setup durability w v told others front rest journal first moment before agree (inr (past, later, parts, inl is)) =
-      let events = without_rtp (events_of_trace past) in
-      inr (resumes_at setup durability w v told others front rest journal first moment before agree past later parts events is
+  cuts_resume setup durability preface base w v told others front rest journal first moment before agree (inl earlier) = inl earlier
+  cuts_resume setup durability preface base w v told others front rest journal first moment before agree (inr (past, later, parts, inl is)) =
+      let events = lasting (events_of_trace past) in
+      inr (resumes_at setup durability preface base w v told others front rest journal first moment before agree past later parts events is
       (record { kept = events; ticks = 0; few = omega arith; lost = sym (append-nil events); wrote = inl refl }))
-  cuts_resume setup durability w v told others front rest journal first moment before agree (inr (past, later, parts, inr (source, bytes, is))) =
-      let events = without_rtp (events_of_trace past) in
+  cuts_resume setup durability preface base w v told others front rest journal first moment before agree (inr (past, later, parts, inr (source, bytes, is))) =
+      let events = lasting (events_of_trace past) in
       let message = Control source bytes ∷ [] in
-      inr (resumes_at setup durability w v told others front rest journal first moment before agree past later parts
+      inr (resumes_at setup durability preface base w v told others front rest journal first moment before agree past later parts
       (events ++ message) (is ∙ append_assoc told events message)
       (record { kept = events; ticks = 0; few = omega arith; lost = sym (append-nil events); wrote = inr (source, bytes, refl) }))

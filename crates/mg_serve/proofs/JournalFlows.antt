@@ -4,9 +4,9 @@ use Rattle.mg_words.specs.declared.peer.Peer.{Peer}
 use Rattle.mg_engine.specs.Flow.{flow}
 use Rattle.mg_core.specs.declared.event.Event.{Event}
 use Rattle.mg_core.specs.declared.event.Event.TheVariants.{Control, Tick}
-use Rattle.mg_core.specs.ExceptReceived.{AgreeExceptReceived, RtpChangesSpeechOnly, without_rtp}
+use Rattle.mg_core.specs.ExceptReceived.{AgreeExceptReceived, RtpChangesSpeechOnly, lasting}
 use Rattle.mg_core.specs.Step.{Run}
-use Rattle.mg_core.specs.World.{World, start_of, world_after_tick, world_after_ticks}
+use Rattle.mg_core.specs.World.{World, world_after_tick, world_after_ticks}
 use Rattle.mg_serve.specs.JournalLaws.{JournalsTellWhoHears, LosesTicks, ticks_lacking}
 use Rattle.mg_serve.specs.Theorems.{SessionsAreRuns}
 use Rattle.mg_serve.specs.Trace.{TraceEntry, events_of_trace}
@@ -72,13 +72,13 @@ keeps_as lacking past later happened written end loses is (inr (more, all, left)
 }
 
 keeps_front : (lacking : ℕ) (past later : List TraceEntry) (written : List Event)
-    → LosesTicks lacking (without_rtp (events_of_trace (past ++ later))) written
-    → KeepsFront lacking (without_rtp (events_of_trace past)) written
+    → LosesTicks lacking (lasting (events_of_trace (past ++ later))) written
+    → KeepsFront lacking (lasting (events_of_trace past)) written
 keeps_front lacking past later written loses =
-    let before = without_rtp (events_of_trace past) in
-    let after = without_rtp (events_of_trace later) in
+    let before = lasting (events_of_trace past) in
+    let after = lasting (events_of_trace later) in
     let (end, is) = front_of loses.kept written loses.wrote in
-    keeps_as lacking before after (without_rtp (events_of_trace (past ++ later))) written end loses is
+    keeps_as lacking before after (lasting (events_of_trace (past ++ later))) written end loses is
     (apart before after loses.kept (replicate loses.ticks Tick) (sym (quiet_both past later) ∙ loses.lost))
 
 -- ## A journal shows who could hear whom
@@ -87,7 +87,7 @@ same_flows : (a b c : World) → HaveSameFlows a b → HaveSameFlows b c → Hav
 same_flows a b c one other talker listener = one talker listener ∙ other talker listener
 
 pub tells_who_hears : SessionsAreRuns → OneOutcome → RtpChangesSpeechOnly → JournalsTellWhoHears
-tells_who_hears runs one law setup durability w v told others past later rest journal moment before agree survives =
+tells_who_hears runs one law setup durability preface base w v told others past later rest journal moment before agree survives =
     let (a, now, whole) =
     front_run setup w moment.last (past ++ later) rest
     (runs setup moment.commands w moment.last ((past ++ later) ++ rest) moment.session) in
@@ -106,8 +106,8 @@ tells_who_hears runs one law setup durability w v told others past later rest jo
       few = keeps.few;
       lost = keeps.lost;
       flows = λ u all ran.
-          let (s, t, mid, start, quiet) = split_run (start_of setup.config) u told keeps.first all ran in
-          let same : mid ≡ v = (one (start_of setup.config) told s others mid v start before).1 in
+          let (s, t, mid, start, quiet) = split_run base u told keeps.first all ran in
+          let same : mid ≡ v = (one base told s others mid v start before).1 in
           let mine : Run v keeps.first t u = subst (λ (x : World). Run x keeps.first t u) same quiet in
           same_flows then_world (world_after_ticks keeps.ticks u) u
           (agreeing_flows then_world (world_after_ticks keeps.ticks u)

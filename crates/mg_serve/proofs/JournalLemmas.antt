@@ -1,5 +1,5 @@
 -- Appends one after another, and the ticks that a journal lacks.
-use Rattle.std.proofs.Common.{◌≡◌, ℕ, ◌+◌, ◌<◌, inl, inr, false, List, [], ◌∷◌, ◌++◌, All, map, IsSome, Option, Some, None, Result, Ok, Err, refl, ap, subst, ◌∙◌}
+use Rattle.std.proofs.Common.{◌≡◌, ℕ, ◌+◌, ◌<◌, inl, inr, Bool, false, List, [], ◌∷◌, ◌++◌, All, map, IsSome, Option, Some, None, Result, refl, ap, subst, ◌∙◌}
 use Rattle.std.proofs.lemmas.List.Elements.{All-head, All-tail}
 use Rattle.mg_words.specs.declared.peer.Peer.{Peer}
 use Rattle.std.proofs.lemmas.List.Folds.{list_any-append}
@@ -8,16 +8,22 @@ use Rattle.mg_journal.specs.declared.append_fault.AppendFault.{AppendFault}
 use Rattle.mg_journal.specs.declared.durability.Durability.{Durability}
 use Rattle.mg_journal.specs.Journal.{JournalState}
 use Rattle.mg_ports.specs.declared.call.Call.{Call}
-use Rattle.mg_ports.specs.declared.call.Call.TheVariants.{Receive, Send, BeginTick, Append}
+use Rattle.mg_ports.specs.declared.call.Call.TheVariants.{Receive, Send, BeginTick, Append, Renew}
 use Rattle.mg_ports.specs.Journaled.{JournalAfter}
+use Rattle.mg_core.specs.declared.event.Event.{Event}
 use Rattle.mg_core.specs.declared.event.Event.TheVariants as events
 use Rattle.mg_serve.specs.declared.form.Form.{Form}
 use Rattle.mg_serve.specs.declared.form.Form.TheVariants.{Plain, Recording}
 use Rattle.mg_serve.specs.Journaled.{Progress, Lacks, Advances, IsJournaled, Journals, Tries, is_append}
 use Rattle.mg_serve.specs.aids.Tried.{IsTried}
-use Rattle.mg_serve.specs.Session.{IsAppended, MayAppend}
+use Rattle.mg_core.specs.World.{World}
+use Rattle.mg_checkpoint.specs.Checkpoint.{checkpoint_text}
+use Rattle.mg_serve.specs.Renewal.{renewal_text}
+use Rattle.mg_serve.specs.Session.{AppendsFor, MayRenew}
+use Rattle.mg_serve.specs.Setup.{Setup}
 use Rattle.mg_serve.specs.Trace.{TraceEntry, Called, Happened, Printed, Noted, Stale, calls_of, output_of}
-use Rattle.mg_serve.specs.aids.Journaling.{AreAppends, after_one_tick}
+use Rattle.mg_serve.specs.aids.Journaling.{after_one_tick}
+use Rattle.mg_serve.proofs.AppendLemmas.{IsAppend, only_appends}
 use Rattle.mg_serve.proofs.Printing.{calls_both, output_both}
 
 -- ## The journal of the ports
@@ -29,6 +35,7 @@ after_both (Receive socket receipt ∷ p) q a b c h k = after_both p q a b c h k
 after_both (Send socket to bytes ∷ p) q a b c h k = after_both p q a b c h k
 after_both (BeginTick timing ∷ p) q a b c h k = after_both p q a b c h k
 after_both (Append lines durability result ∷ p) q a b c h k = (h.0, h.1, after_both p q h.0 b c h.2 k)
+after_both (Renew text durability result ∷ p) q a b c h k = (h.0, h.1, after_both p q h.0 b c h.2 k)
 
 -- Calls without an append leave the journal unchanged.
 pub after_quiet : (calls : List Call) (a b : JournalState) → list_any is_append calls ≡ false → b ≡ a →
@@ -38,6 +45,7 @@ after_quiet (Receive socket receipt ∷ calls) a b quiet same = after_quiet call
 after_quiet (Send socket to bytes ∷ calls) a b quiet same = after_quiet calls a b quiet same
 after_quiet (BeginTick timing ∷ calls) a b quiet same = after_quiet calls a b quiet same
 after_quiet (Append lines durability result ∷ calls) a b quiet same = absurd cc
+after_quiet (Renew text durability result ∷ calls) a b quiet same = absurd cc
 
 -- ## The ticks that the journal lacks
 
@@ -70,6 +78,7 @@ advances_idle durable n (Called (Receive socket receipt)) idle = refl
 advances_idle durable n (Called (Send socket to bytes)) idle = refl
 advances_idle durable n (Called (BeginTick timing)) idle = refl
 advances_idle durable n (Called (Append lines durability result)) idle = absurd cc
+advances_idle durable n (Called (Renew text durability result)) idle = absurd cc
 advances_idle durable n (Happened (events.Control source bytes)) idle = absurd idle
 advances_idle durable n (Happened (events.Media port source bytes)) idle = refl
 advances_idle durable n (Happened events.Tick) idle = absurd idle
@@ -82,6 +91,7 @@ appends_none (Called (Receive socket receipt)) idle = refl
 appends_none (Called (Send socket to bytes)) idle = refl
 appends_none (Called (BeginTick timing)) idle = refl
 appends_none (Called (Append lines durability result)) idle = absurd cc
+appends_none (Called (Renew text durability result)) idle = absurd cc
 appends_none (Happened event) idle = refl
 appends_none (Printed text) idle = refl
 appends_none (Noted text) idle = refl
@@ -115,6 +125,7 @@ calls_journaled d n (BeginTick timing ∷ calls) quiet =
     journaled_both d n n n (Called (BeginTick timing) ∷ []) (map (λ (call : Call). Called call) calls)
     (idle_journaled d n (Called (BeginTick timing)) refl) (calls_journaled d n calls quiet)
 calls_journaled d n (Append lines durability result ∷ calls) quiet = absurd cc
+calls_journaled d n (Renew text durability result ∷ calls) quiet = absurd cc
 
 -- After one more tick, the journal lacks one more tick, if there is a journal.
 pub tick_journaled : (d : Option Durability) (n : ℕ) →
@@ -127,6 +138,7 @@ tick_journaled (Some durable) n = (Lacks (n + 1), refl, refl)
 tries_both : (a b c : ℕ) (p q : List TraceEntry) → Tries a p b → Tries b q c → Tries a (p ++ q) c
 tries_both a b c [] q h k = subst (λ (n : ℕ). Tries n q c) h k
 tries_both a b c (Called (Append lines durability result) ∷ p) q h k = tries_both 0 b c p q h k
+tries_both a b c (Called (Renew text durability result) ∷ p) q h k = (h.0, tries_both a b c p q h.1 k)
 tries_both a b c (Called (Receive socket receipt) ∷ p) q h k = tries_both a b c p q h k
 tries_both a b c (Called (Send socket to bytes) ∷ p) q h k = tries_both a b c p q h k
 tries_both a b c (Called (BeginTick timing) ∷ p) q h k = tries_both a b c p q h k
@@ -152,6 +164,7 @@ idle_tried (Some durable) n (Called (Receive socket receipt)) idle = refl
 idle_tried (Some durable) n (Called (Send socket to bytes)) idle = refl
 idle_tried (Some durable) n (Called (BeginTick timing)) idle = refl
 idle_tried (Some durable) n (Called (Append lines durability result)) idle = absurd cc
+idle_tried (Some durable) n (Called (Renew text durability result)) idle = absurd cc
 idle_tried (Some durable) n (Happened (events.Control source bytes)) idle = absurd idle
 idle_tried (Some durable) n (Happened (events.Media port source bytes)) idle = refl
 idle_tried (Some durable) n (Happened events.Tick) idle = absurd idle
@@ -171,6 +184,7 @@ calls_tried (Some durable) n (Receive socket receipt ∷ calls) quiet = calls_tr
 calls_tried (Some durable) n (Send socket to bytes ∷ calls) quiet = calls_tried (Some durable) n calls quiet
 calls_tried (Some durable) n (BeginTick timing ∷ calls) quiet = calls_tried (Some durable) n calls quiet
 calls_tried (Some durable) n (Append lines durability result ∷ calls) quiet = absurd cc
+calls_tried (Some durable) n (Renew text durability result ∷ calls) quiet = absurd cc
 
 pub tick_tried : (d : Option Durability) (n : ℕ) → n < 10 → IsTried d n (Happened events.Tick ∷ []) (after_one_tick d n)
 tick_tried None n few = refl
@@ -189,31 +203,27 @@ message_tried (Some wanted) durable n left lines how result source bytes is none
 
 -- ## Appends
 
-pub appended_prints : (form : Form) (p : List TraceEntry) → All IsAppended p → output_of form p ≡ []
-appended_prints form [] all = refl
-appended_prints Plain (Called call ∷ p) all =
-    appended_prints Plain p (All-tail IsAppended (Called call) p all)
-appended_prints Recording (Called call ∷ p) all =
-    appended_prints Recording p (All-tail IsAppended (Called call) p all)
-appended_prints form (Happened event ∷ p) all = absurd (All-head IsAppended (Happened event) p all)
-appended_prints form (Printed text ∷ p) all = absurd (All-head IsAppended (Printed text) p all)
-appended_prints form (Noted text ∷ p) all = absurd (All-head IsAppended (Noted text) p all)
-appended_prints form (Stale source bytes ∷ p) all = absurd (All-head IsAppended (Stale source bytes) p all)
-
 append_prints : (form : Form) (call : Call) → output_of form (Called call ∷ []) ≡ []
 append_prints Plain call = refl
 append_prints Recording call = refl
 
-pub appends_print : (followed : List TraceEntry) (result : Result (Unit {0}) AppendFault) (form : Form)
-    (p : List TraceEntry) → AreAppends followed result p → output_of form p ≡ []
-appends_print followed (Ok done) form p are = appended_prints form p are
-appends_print followed (Err fault) form p (appended, lines, durability, is, all, before) =
-    let last = Append lines durability (Err fault) in
-    ap (output_of form) is ∙ output_both form appended (Called last ∷ []) ∙
-    ap (λ (l : List ℕ). l ++ output_of form (Called last ∷ [])) (appended_prints form appended all) ∙
-    append_prints form last
+appends_print : (form : Form) (p : List TraceEntry) → All IsAppend p → output_of form p ≡ []
+appends_print form [] all = refl
+appends_print Plain (Called call ∷ p) all = appends_print Plain p (All-tail IsAppend (Called call) p all)
+appends_print Recording (Called call ∷ p) all = appends_print Recording p (All-tail IsAppend (Called call) p all)
+appends_print form (Happened event ∷ p) all = absurd (All-head IsAppend (Happened event) p all)
+appends_print form (Printed text ∷ p) all = absurd (All-head IsAppend (Printed text) p all)
+appends_print form (Noted text ∷ p) all = absurd (All-head IsAppend (Noted text) p all)
+appends_print form (Stale source bytes ∷ p) all = absurd (All-head IsAppend (Stale source bytes) p all)
 
-pub may_print : (form : Form) (p : List TraceEntry) → MayAppend p → output_of form p ≡ []
-may_print form p (inl none) = ap (output_of form) none
-may_print form p (inr (lines, durability, result, is)) =
-    ap (output_of form) is ∙ append_prints form (Append lines durability result)
+pub may_print : (form : Form) (event : Event) (failed : Bool) (p : List TraceEntry) → AppendsFor event failed p
+    → output_of form p ≡ []
+may_print form event failed p h = appends_print form p (only_appends event failed p h)
+
+pub renewal_prints : (form : Form) (setup : Setup) (w : World) (p : List TraceEntry) → MayRenew setup w p → output_of form p ≡ []
+renewal_prints form setup w p (inl none) = ap (output_of form) none
+renewal_prints form setup w p (inr (appends, failed, h, reached, durability, result, is, fits, restorable)) =
+    let renew = Renew (renewal_text setup.head (checkpoint_text w) reached) durability result in
+    ap (output_of form) is ∙ (output_both form appends (Called renew ∷ [])
+    ∙ (ap (λ (l : List ℕ). l ++ output_of form (Called renew ∷ [])) (may_print form events.Tick failed appends h)
+    ∙ append_prints form renew))

@@ -1,6 +1,8 @@
 -- The text on the disk after an answer was sent.
-use Rattle.std.proofs.Common.{◌≡◌, ℕ, false, true, List, [], ◌∷◌, ◌++◌, take, Option, Some, None, IfSome, Result, Ok, Err, refl, sym, ap, subst, ◌∙◌, append_assoc, append-nil}
+use Rattle.std.proofs.Common.{◌≡◌, ℕ, false, true, List, [], ◌∷◌, ◌++◌, take, Option, Some, None, Result, Ok, Err, refl, sym, ap, subst, ◌∙◌, append_assoc, append-nil}
+use Rattle.std.specs.List.{list_any}
 use Rattle.std.specs.Io.KnownBytes.{append_known}
+use Rattle.std.proofs.lemmas.List.{append_cancel_left}
 use Rattle.mg_journal.specs.declared.append_fault.AppendFault.{AppendFault}
 use Rattle.mg_journal.specs.declared.append_fault.AppendFault.TheVariants.{Refused, Broken}
 use Rattle.mg_journal.specs.declared.durability.Durability.{Durability}
@@ -9,22 +11,22 @@ use Rattle.mg_journal.specs.Text.{whole_lines}
 use Rattle.mg_journal.specs.Journal.{Appends, JournalState, appended}
 use Rattle.mg_journal.proofs.TextLemmas.{whole_after}
 use Rattle.mg_core.specs.declared.event.Event.{Event}
-use Rattle.mg_core.specs.ExceptReceived.{without_rtp}
+use Rattle.mg_core.specs.declared.event.Event.TheVariants.{Control}
+use Rattle.mg_core.specs.ExceptReceived.{lasting}
 use Rattle.mg_core.specs.Recording.{RecordingsAreRead}
 use Rattle.mg_core.specs.Script.{events_of}
 use Rattle.mg_core.specs.Counted.{journal_lines}
 use Rattle.mg_ports.specs.declared.call.Call.{Call}
-use Rattle.mg_ports.specs.declared.call.Call.TheVariants.{Receive, Send, BeginTick, Append}
+use Rattle.mg_ports.specs.declared.call.Call.TheVariants.{Receive, Send, BeginTick, Append, Renew}
 use Rattle.mg_ports.specs.Journaled.{JournalAfter}
-use Rattle.mg_serve.specs.JournalLaws.{IsMoment, IsScriptOf, PowerLossesForgetNoAnswer, TellsEvents}
-use Rattle.mg_serve.specs.Session.{Session}
-use Rattle.mg_serve.specs.Journaled.{IsJournaled}
-use Rattle.mg_serve.specs.Trace.{TraceEntry, Called, calls_of, events_of_trace}
-use Rattle.mg_serve.proofs.JournalAnswers.{nothing_is_forgotten}
+use Rattle.mg_serve.specs.JournalLaws.{IsScriptOf, PowerLossesForgetNoAnswer, TellsEvents, is_renewal}
+use Rattle.mg_serve.specs.Journaled.{Lacks, Journals}
+use Rattle.mg_serve.specs.Trace.{TraceEntry, Called, Happened, calls_of, events_of_trace}
+use Rattle.mg_serve.proofs.JournalAnswers.{journals_of, tells_at}
 use Rattle.mg_serve.proofs.JournalCrashes.{moment_told}
-use Rattle.mg_serve.proofs.JournalSteps.{after_parts}
+use Rattle.mg_serve.proofs.JournalSteps.{after_parts, journals_parts, unrenewed_parts}
 use Rattle.mg_serve.proofs.Printing.{calls_both}
-use Rattle.mg_serve.proofs.JournalText.{cut_script, marked}
+use Rattle.mg_serve.proofs.JournalText.{Tells, cut_script}
 
 -- The text `base` is on the disk. Text after it may be on the disk too.
 pub record IsOnDisk (base : List ℕ) (journal : JournalState) : Type 0 where
@@ -97,13 +99,16 @@ append_rests (Some base) part how (Err Broken) old new rests breaks =
     (record { sure = rests.sure; more = rests.more ++ lines; synced = rests.synced; text = known_grows base lines old rests })
 
 calls_rest : (known : Option (List ℕ)) (calls : List Call) (old new : JournalState) → Rests known old
-    → JournalAfter calls old new → Rests known new
-calls_rest known [] old new rests after = subst (λ (j : JournalState). Rests known j) (sym after) rests
-calls_rest known (Append lines how result ∷ calls) old new rests (mid, (seal, comment, sealed, dated, appends), after) =
-    calls_rest known calls mid new (append_rests known (seal ++ (comment ++ lines)) how result old mid rests appends) after
-calls_rest known (Receive socket receipt ∷ calls) old new rests after = calls_rest known calls old new rests after
-calls_rest known (Send socket to bytes ∷ calls) old new rests after = calls_rest known calls old new rests after
-calls_rest known (BeginTick timing ∷ calls) old new rests after = calls_rest known calls old new rests after
+    → list_any is_renewal calls ≡ false → JournalAfter calls old new → Rests known new
+calls_rest known [] old new rests stays after = subst (λ (j : JournalState). Rests known j) (sym after) rests
+calls_rest known (Append lines how result ∷ calls) old new rests stays (mid, (seal, comment, sealed, dated, appends), after) =
+    calls_rest known calls mid new (append_rests known (seal ++ (comment ++ lines)) how result old mid rests appends) stays after
+calls_rest known (Renew text how (Ok done) ∷ calls) old new rests stays after = absurd cc
+calls_rest known (Renew text how (Err fault) ∷ calls) old new rests stays (mid, (follows, comment, follow, dated, kept), after) =
+    calls_rest known calls mid new (subst (λ (j : JournalState). Rests known j) (sym kept) rests) stays after
+calls_rest known (Receive socket receipt ∷ calls) old new rests stays after = calls_rest known calls old new rests stays after
+calls_rest known (Send socket to bytes ∷ calls) old new rests stays after = calls_rest known calls old new rests stays after
+calls_rest known (BeginTick timing ∷ calls) old new rests stays after = calls_rest known calls old new rests stays after
 
 -- ## Power losses forget no answer
 
@@ -124,46 +129,44 @@ begins_with base rest cut before first one is script =
     same_events fs before (sym front.1 ∙ (ap (λ (l : List ℕ). events_of (journal_lines true l)) one.0 ∙ one.1)) in
     (gs, parts ∙ ap (λ (l : List Event). l ++ gs) same)
 
-kept_on : (known : Option (List ℕ)) (before all : List Event) (journal : JournalState) (synced more lost : List ℕ)
-    → Rests known journal → IfSome known (λ t. IsScriptOf t before × (marked t ≡ true)) → TellsEvents journal all
+kept_on : (preface : List ℕ) (known : Option (List ℕ)) (before all : List Event) (journal : JournalState)
+    (synced more lost : List ℕ) → Rests known journal → Tells preface known before → TellsEvents preface journal all
     → journal.synced ≡ Some synced → journal.text ≡ Some ((synced ++ more) ++ lost)
-    → (others : List Event) × IsScriptOf (whole_lines (synced ++ more)) (before ++ others)
-kept_on None before all journal synced more lost rests told tells is text =
+    → (others : List Event) × (cut : List ℕ) × (synced ++ more ≡ preface ++ cut)
+    × IsScriptOf (whole_lines cut) (before ++ others)
+kept_on preface None before all journal synced more lost rests told tells is text =
     let never : None ≡ Some ((synced ++ more) ++ lost) = sym rests ∙ text in
     absurd cc
-kept_on (Some base) before all journal synced more lost rests told tells is text =
-    let script : IsScriptOf ((synced ++ more) ++ lost) all =
-    (subst (λ (o : Option (List ℕ)). IfSome o (λ t. IsScriptOf t all × (marked t ≡ true))) text tells).0 in
-    let (first, gs, parts, front) = cut_script false ((synced ++ more) ++ lost) (synced ++ more) lost all refl script in
-    let here : synced ++ more ≡ base ++ (rests.sure ++ more) =
+kept_on preface (Some base) before all journal synced more lost rests (early, starts, script, marks) tells is text =
+    let (tail, parts, whole, marked) =
+    subst (λ (o : Option (List ℕ)). Tells preface o all) text tells in
+    let cut = early ++ (rests.sure ++ more) in
+    let here : synced ++ more ≡ preface ++ cut =
     ap (λ (l : List ℕ). l ++ more) (same_text synced (base ++ rests.sure) (sym is ∙ rests.synced))
-    ∙ append_assoc base rests.sure more in
-    let (others, begins) = begins_with base (rests.sure ++ more) (synced ++ more) before first told.0 here front in
-    (others, subst (λ (l : List Event). IsScriptOf (whole_lines (synced ++ more)) l) begins front)
+    ∙ (append_assoc base rests.sure more ∙ (ap (λ (l : List ℕ). l ++ (rests.sure ++ more)) starts
+    ∙ append_assoc preface early (rests.sure ++ more))) in
+    let left : tail ≡ cut ++ lost =
+    append_cancel_left preface tail (cut ++ lost)
+    (sym parts ∙ (ap (λ (l : List ℕ). l ++ lost) here ∙ append_assoc preface cut lost)) in
+    let (first, gs, apart, front) = cut_script false tail cut lost all left whole in
+    let (others, begins) = begins_with early (rests.sure ++ more) cut before first script refl front in
+    (others, cut, here, subst (λ (l : List Event). IsScriptOf (whole_lines cut) l) begins front)
 
 pub power_losses : RecordingsAreRead → PowerLossesForgetNoAnswer
-power_losses read setup w told front later rest to answer journal synced more lost moment is text =
+power_losses read setup preface w told before later rest to bytes answer journal synced more lost moment short is text =
+    let front = before ++ Happened (Control to bytes) ∷ [] in
     let entry = Called (Send 0 to answer) in
-    let all = (front ++ entry ∷ later) ++ rest in
-    let next = entry ∷ (later ++ rest) in
-    let apart : all ≡ front ++ next = append_assoc front (entry ∷ later) rest in
     let (mid, first, after) =
     after_parts (calls_of front) (calls_of (entry ∷ later)) moment.start journal
     (subst (λ (l : List Call). JournalAfter l moment.start journal) (calls_both front (entry ∷ later)) moment.after) in
-    let earlier : IsMoment setup Synced w told front next mid = record {
-      commands = moment.commands;
-      last = moment.last;
-      lacking = moment.lacking;
-      start = moment.start;
-      has = moment.has;
-      session = subst (λ (l : List TraceEntry). Session setup moment.commands w l moment.last) apart moment.session;
-      lacks = subst (λ (l : List TraceEntry). IsJournaled setup.journal 0 l moment.lacking) apart moment.lacks;
-      tells = moment.tells;
-      after = first;
-    } in
-    let kept = nothing_is_forgotten read setup Synced w told front (later ++ rest) mid to answer earlier in
-    let (progress, js, (written, tells, loses)) =
-    moment_told read setup Synced w told (front ++ entry ∷ later) rest journal moment in
-    kept_on mid.text (told ++ without_rtp (events_of_trace front)) (told ++ written) journal synced more lost
-    (calls_rest mid.text (calls_of (entry ∷ later)) mid journal (all_synced mid.text mid refl (kept.synced refl)) after)
-    kept.tells tells is text
+    let none = unrenewed_parts front (entry ∷ later) moment.unrenewed in
+    let (progress, js, others) =
+    journals_parts Synced (Lacks 0) (Lacks moment.lacking) front (entry ∷ (later ++ rest))
+    (subst (λ (l : List TraceEntry). Journals Synced (Lacks 0) l (Lacks moment.lacking)) (append_assoc front (entry ∷ later) rest)
+    (journals_of setup Synced ((front ++ entry ∷ later) ++ rest) moment.lacking moment.has moment.lacks)) in
+    let here = tells_at read Synced preface told before to bytes progress moment.start mid moment.tells js none.0 first short in
+    let (reached, all, (written, tells, loses)) =
+    moment_told read setup Synced preface w told (front ++ entry ∷ later) rest journal moment in
+    kept_on preface mid.text (told ++ lasting (events_of_trace front)) (told ++ written) journal synced more lost
+    (calls_rest mid.text (calls_of (entry ∷ later)) mid journal (all_synced mid.text mid refl (here.1 refl)) none.1 after)
+    here.0 tells is text

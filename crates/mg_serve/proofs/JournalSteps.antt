@@ -1,6 +1,11 @@
 -- The events in a journal after each entry of a trace.
-use Rattle.std.proofs.Common.{◌≡◌, ◌⊎◌, inl, inr, ℕ, zero, suc, ◌+◌, ◌-◌, ◌≤◌, Bool, true, false, List, [], ◌∷◌, ◌++◌, length, take, replicate, IfSome, Result, Ok, Err, refl, sym, ap, subst, ◌∙◌, append_assoc, append-nil, arith}
+use Rattle.std.proofs.Common.{◌≡◌, ◌⊎◌, inl, inr, ℕ, zero, suc, ◌+◌, ◌-◌, ◌≤◌, Bool, true, false, not, ◌&&◌, ◌||◌, List, [], ◌∷◌, ◌++◌, length, take, replicate, Result, Ok, Err, refl, sym, ap, subst, ◌∙◌, append_assoc, append-nil, arith}
 use Rattle.std.specs.Prelude.{if◌then◌else◌}
+use Rattle.std.specs.List.{list_any}
+use Rattle.std.proofs.lemmas.List.Elements.{filter-append}
+use Rattle.mg_core.specs.Counting.{is_media}
+use Rattle.mg_serve.proofs.Runs.{events_both}
+use Rattle.std.proofs.lemmas.List.Folds.{list_any-append}
 use Rattle.std.proofs.lemmas.List.{replicate-append-replicate, replicate_more}
 use Rattle.std.specs.Io.KnownBytes.{append_known}
 use Rattle.mg_journal.specs.declared.append_fault.AppendFault.{AppendFault}
@@ -12,16 +17,16 @@ use Rattle.mg_journal.specs.Journal.{text_to_seal, JournalState, Breaks, appende
 use Rattle.mg_words.specs.declared.peer.Peer.{Peer}
 use Rattle.mg_core.specs.declared.event.Event.{Event}
 use Rattle.mg_core.specs.declared.event.Event.TheVariants.{Control, Media, Tick}
-use Rattle.mg_core.specs.ExceptReceived.{without_rtp}
+use Rattle.mg_core.specs.ExceptReceived.{is_oversized, lasting}
 use Rattle.mg_core.specs.Recording.{RecordingsAreRead}
 use Rattle.mg_ports.specs.declared.call.Call.{Call}
-use Rattle.mg_ports.specs.declared.call.Call.TheVariants.{Receive, Send, BeginTick, Append}
+use Rattle.mg_ports.specs.declared.call.Call.TheVariants.{Receive, Send, BeginTick, Append, Renew}
 use Rattle.mg_ports.specs.Journaled.{AppendsDated, JournalAfter}
 use Rattle.mg_serve.specs.Journaled.{Progress, Lacks, Announces, Advances, AppendsLines, Journals}
-use Rattle.mg_serve.specs.JournalLaws.{IsScriptOf, LosesTicks, TellsEvents}
+use Rattle.mg_serve.specs.JournalLaws.{LosesTicks, TellsEvents, is_renewal}
 use Rattle.mg_serve.specs.Trace.{TraceEntry, Called, Happened, Printed, Noted, Stale, calls_of, events_of_trace}
 use Rattle.mg_serve.proofs.Printing.{calls_both}
-use Rattle.mg_serve.proofs.JournalText.{IsScriptFrom, count_script, known_more, marked, message_script, written, written_front}
+use Rattle.mg_serve.proofs.JournalText.{IsScriptFrom, Tells, count_script, known_more, message_script, written, written_front}
 
 abbrev pub ticks : ℕ → List Event
 ticks n = replicate n Tick
@@ -34,12 +39,12 @@ Standing true lacking happened told = LosesTicks lacking happened told
 
 -- The journal contains the events `told` from before the session. After them come the events that happened, except for
 -- lost ticks.
-abbrev pub Holds : Durability → List Event → List Event → Progress → JournalState → Type 0
-Holds durability told happened (Lacks lacking) journal =
-    (events : List Event) × TellsEvents journal (told ++ events) × Standing journal.is_broken lacking happened events
-Holds durability told happened (Announces source bytes) journal =
-    TellsEvents journal (told ++ (happened ++ Control source bytes ∷ [])) × (journal.is_broken ≡ false)
-    × (durability ≡ Synced → journal.synced ≡ journal.text)
+abbrev pub Holds : Durability → (preface : List ℕ) → List Event → List Event → Progress → JournalState → Type 0
+Holds durability preface told happened (Lacks lacking) journal =
+    (events : List Event) × TellsEvents preface journal (told ++ events) × Standing journal.is_broken lacking happened events
+Holds durability preface told happened (Announces source bytes) journal =
+    TellsEvents preface journal (told ++ (happened ++ Control source bytes ∷ [])) × (journal.is_broken ≡ false)
+    × (durability ≡ Synced → journal.synced ≡ journal.text) × (is_oversized (Control source bytes) ≡ false)
 
 -- ## Lists of ticks
 
@@ -60,11 +65,11 @@ front_ticks (suc n) (x ∷ first) others is =
 
 -- ## Appends
 
-tells_more : (old : JournalState) (part : List ℕ) (told events more : List Event) → TellsEvents old (told ++ events)
-    → IsScriptFrom true part more → IfSome (append_known old.text part) (λ text. IsScriptOf text (told ++ (events ++ more)) × (marked text ≡ true))
-tells_more old part told events more tells script =
-    subst (λ (l : List Event). IfSome (append_known old.text part) (λ text. IsScriptOf text l × (marked text ≡ true))) (append_assoc told events more)
-    (known_more old.text part (told ++ events) more tells script)
+tells_more : (old : JournalState) (part preface : List ℕ) (told events more : List Event) → TellsEvents preface old (told ++ events)
+    → IsScriptFrom true part more → Tells preface (append_known old.text part) (told ++ (events ++ more))
+tells_more old part preface told events more tells script =
+    subst (λ (l : List Event). Tells preface (append_known old.text part) l) (append_assoc told events more)
+    (known_more preface old.text part (told ++ events) more tells script)
 
 -- A working journal, too, loses at most the ticks that it lacks.
 pub loses_more : (lacking : ℕ) (happened events : List Event) (b : Bool) → Standing b lacking happened events
@@ -82,28 +87,28 @@ exact : (lacking : ℕ) (happened events : List Event) (b : Bool) → b ≡ fals
     → happened ≡ events ++ ticks lacking
 exact lacking happened events b works stands = subst (λ (b : Bool). Standing b lacking happened events) works stands
 
-ticks_done : (durability how : Durability) (told happened events : List Event) (lacking : ℕ) (part : List ℕ)
-    (old new : JournalState) → old.is_broken ≡ false → new ≡ appended part how old → TellsEvents old (told ++ events)
+ticks_done : (durability how : Durability) (preface : List ℕ) (told happened events : List Event) (lacking : ℕ) (part : List ℕ)
+    (old new : JournalState) → old.is_broken ≡ false → new ≡ appended part how old → TellsEvents preface old (told ++ events)
     → Standing old.is_broken lacking happened events → IsScriptFrom true part (ticks lacking)
-    → Holds durability told happened (Lacks 0) new
-ticks_done durability how told happened events lacking part old new works is tells stands script =
+    → Holds durability preface told happened (Lacks 0) new
+ticks_done durability how preface told happened events lacking part old new works is tells stands script =
     let kept : happened ≡ (events ++ ticks lacking) ++ ticks 0 =
     exact lacking happened events old.is_broken works stands ∙ sym (append-nil (events ++ ticks lacking)) in
-    subst (λ (j : JournalState). Holds durability told happened (Lacks 0) j) (sym is) (
+    subst (λ (j : JournalState). Holds durability preface told happened (Lacks 0) j) (sym is) (
       events ++ ticks lacking,
-      tells_more old part told events (ticks lacking) tells script,
+      tells_more old part preface told events (ticks lacking) tells script,
       subst (λ (b : Bool). Standing b 0 happened (events ++ ticks lacking)) (sym works) kept,
     )
 
 -- If an append of ticks breaks the journal, some of the ticks may be in it.
-ticks_broken : (durability : Durability) (told happened events : List Event) (lacking : ℕ) (part : List ℕ)
-    (old new : JournalState) → Breaks part old new → TellsEvents old (told ++ events)
+ticks_broken : (durability : Durability) (preface : List ℕ) (told happened events : List Event) (lacking : ℕ) (part : List ℕ)
+    (old new : JournalState) → Breaks part old new → TellsEvents preface old (told ++ events)
     → (b : Bool) → old.is_broken ≡ b → Standing b lacking happened events → IsScriptFrom true part (ticks lacking)
-    → Holds durability told happened (Lacks lacking) new
-ticks_broken durability told happened events lacking part old new breaks tells true was stands script =
-    subst (λ (j : JournalState). Holds durability told happened (Lacks lacking) j) (sym (breaks.none was))
+    → Holds durability preface told happened (Lacks lacking) new
+ticks_broken durability preface told happened events lacking part old new breaks tells true was stands script =
+    subst (λ (j : JournalState). Holds durability preface told happened (Lacks lacking) j) (sym (breaks.none was))
     (events, tells, subst (λ (b : Bool). Standing b lacking happened events) (sym was) stands)
-ticks_broken durability told happened events lacking part old new breaks tells false was stands script =
+ticks_broken durability preface told happened events lacking part old new breaks tells false was stands script =
     let (first, others, parts, front_script) = written_front part (ticks lacking) breaks.front script in
     let k = length first in
     let front = front_ticks lacking first others parts in
@@ -112,24 +117,26 @@ ticks_broken durability told happened events lacking part old new breaks tells f
     stands ∙ (ap (λ (m : ℕ). events ++ ticks m) split ∙ (ap (λ (l : List Event). events ++ l) (ticks_apart (lacking - k) k)
     ∙ (ap (λ (l : List Event). events ++ (l ++ ticks (lacking - k))) (sym front.0)
     ∙ sym (append_assoc events first (ticks (lacking - k)))))) in
-    subst (λ (j : JournalState). Holds durability told happened (Lacks lacking) j) (sym breaks.state) (
+    subst (λ (j : JournalState). Holds durability preface told happened (Lacks lacking) j) (sym breaks.state) (
       events ++ first,
-      tells_more old (whole_lines (take breaks.front part)) told events first tells front_script,
+      tells_more old (whole_lines (take breaks.front part)) preface told events first tells front_script,
       record { kept = events ++ first; ticks = lacking - k; few = omega arith; lost = kept; wrote = inl refl },
     )
 
-message_done : (durability : Durability) (told happened events : List Event) (source : Peer) (bytes part : List ℕ)
-    (old new : JournalState) → old.is_broken ≡ false → new ≡ appended part durability old → TellsEvents old (told ++ events)
+message_done : (durability : Durability) (preface : List ℕ) (told happened events : List Event) (source : Peer) (bytes part : List ℕ)
+    (old new : JournalState) → old.is_broken ≡ false → new ≡ appended part durability old → TellsEvents preface old (told ++ events)
     → Standing old.is_broken 0 happened events → IsScriptFrom true part (Control source bytes ∷ [])
-    → Holds durability told happened (Announces source bytes) new
-message_done durability told happened events source bytes part old new works is tells stands script =
+    → is_oversized (Control source bytes) ≡ false
+    → Holds durability preface told happened (Announces source bytes) new
+message_done durability preface told happened events source bytes part old new works is tells stands script short =
     let kept : events ≡ happened = sym (exact 0 happened events old.is_broken works stands ∙ append-nil events) in
     let message = Control source bytes ∷ [] in
-    subst (λ (j : JournalState). Holds durability told happened (Announces source bytes) j) (sym is) (
-      subst (λ (l : List Event). IfSome (append_known old.text part) (λ text. IsScriptOf text (told ++ (l ++ message)) × (marked text ≡ true))) kept
-          (tells_more old part told events message tells script),
+    subst (λ (j : JournalState). Holds durability preface told happened (Announces source bytes) j) (sym is) (
+      subst (λ (l : List Event). Tells preface (append_known old.text part) (told ++ (l ++ message))) kept
+          (tells_more old part preface told events message tells script),
       works,
       λ sync. ap (λ (d : Durability). if is_synced d then append_known old.text part else old.synced) sync,
+      short,
     )
 
 -- A prefix of a list with one message is empty or has this message.
@@ -160,60 +167,60 @@ message_lost happened events first source bytes stands (inr one) = record {
   wrote = inr (source, bytes, ap (λ (l : List Event). events ++ l) one);
 }
 
-message_broken : (durability : Durability) (told happened events : List Event) (source : Peer) (bytes part : List ℕ)
-    (old new : JournalState) → Breaks part old new → TellsEvents old (told ++ events)
+message_broken : (durability : Durability) (preface : List ℕ) (told happened events : List Event) (source : Peer) (bytes part : List ℕ)
+    (old new : JournalState) → Breaks part old new → TellsEvents preface old (told ++ events)
     → (b : Bool) → old.is_broken ≡ b → Standing b 0 happened events → IsScriptFrom true part (Control source bytes ∷ [])
-    → Holds durability told happened (Lacks 0) new
-message_broken durability told happened events source bytes part old new breaks tells true was stands script =
-    subst (λ (j : JournalState). Holds durability told happened (Lacks 0) j) (sym (breaks.none was))
+    → Holds durability preface told happened (Lacks 0) new
+message_broken durability preface told happened events source bytes part old new breaks tells true was stands script =
+    subst (λ (j : JournalState). Holds durability preface told happened (Lacks 0) j) (sym (breaks.none was))
     (events, tells, subst (λ (b : Bool). Standing b 0 happened events) (sym was) stands)
-message_broken durability told happened events source bytes part old new breaks tells false was stands script =
+message_broken durability preface told happened events source bytes part old new breaks tells false was stands script =
     let (first, others, parts, front_script) = written_front part (Control source bytes ∷ []) breaks.front script in
-    subst (λ (j : JournalState). Holds durability told happened (Lacks 0) j) (sym breaks.state) (
+    subst (λ (j : JournalState). Holds durability preface told happened (Lacks 0) j) (sym breaks.state) (
       events ++ first,
-      tells_more old (whole_lines (take breaks.front part)) told events first tells front_script,
+      tells_more old (whole_lines (take breaks.front part)) preface told events first tells front_script,
       message_lost happened events first source bytes stands (one_front (Control source bytes) first others parts),
     )
 
-same_state : (durability : Durability) (told happened : List Event) (progress : Progress) (old new : JournalState)
-    → new ≡ old → Holds durability told happened progress old → Holds durability told happened progress new
-same_state durability told happened progress old new is holds =
-    subst (λ (j : JournalState). Holds durability told happened progress j) (sym is) holds
+same_state : (durability : Durability) (preface : List ℕ) (told happened : List Event) (progress : Progress) (old new : JournalState)
+    → new ≡ old → Holds durability preface told happened progress old → Holds durability preface told happened progress new
+same_state durability preface told happened progress old new is holds =
+    subst (λ (j : JournalState). Holds durability preface told happened progress j) (sym is) holds
 
-append_holds : RecordingsAreRead → (durability how : Durability) (told happened : List Event)
+append_holds : RecordingsAreRead → (durability how : Durability) (preface : List ℕ) (told happened : List Event)
     (lacking : ℕ) (lines : List ℕ) (result : Result (Unit {0}) AppendFault) (next : Progress) (old new : JournalState)
-    → Holds durability told happened (Lacks lacking) old → AppendsLines durability lacking lines how result next
-    → AppendsDated lines how old new result → Holds durability told happened next new
-append_holds read durability how told happened lacking lines (Ok done) next old new (events, tells, stands) (inl (some, small, are, weak, is)) (seal, comment, sealed, dated, (works, grew)) =
+    → Holds durability preface told happened (Lacks lacking) old → AppendsLines durability lacking lines how result next
+    → AppendsDated lines how old new result → Holds durability preface told happened next new
+append_holds read durability how preface told happened lacking lines (Ok done) next old new (events, tells, stands) (inl (some, small, are, weak, is)) (seal, comment, sealed, dated, (works, grew)) =
     let script = written read (text_to_seal old) seal comment lines (ticks lacking) sealed dated
     (subst (λ (l : List ℕ). IsScriptFrom true l (ticks lacking)) (sym are) (count_script lacking some small)) in
-    subst (λ (p : Progress). Holds durability told happened p new) (sym is)
-    (ticks_done durability how told happened events lacking (seal ++ (comment ++ lines)) old new works grew tells stands script)
-append_holds read durability how told happened lacking lines (Err Refused) next old new holds (inl (some, small, are, weak, is)) (seal, comment, sealed, dated, (works, same)) =
-    subst (λ (p : Progress). Holds durability told happened p new) (sym is)
-    (same_state durability told happened (Lacks lacking) old new same holds)
-append_holds read durability how told happened lacking lines (Err Broken) next old new (events, tells, stands) (inl (some, small, are, weak, is)) (seal, comment, sealed, dated, breaks) =
+    subst (λ (p : Progress). Holds durability preface told happened p new) (sym is)
+    (ticks_done durability how preface told happened events lacking (seal ++ (comment ++ lines)) old new works grew tells stands script)
+append_holds read durability how preface told happened lacking lines (Err Refused) next old new holds (inl (some, small, are, weak, is)) (seal, comment, sealed, dated, (works, same)) =
+    subst (λ (p : Progress). Holds durability preface told happened p new) (sym is)
+    (same_state durability preface told happened (Lacks lacking) old new same holds)
+append_holds read durability how preface told happened lacking lines (Err Broken) next old new (events, tells, stands) (inl (some, small, are, weak, is)) (seal, comment, sealed, dated, breaks) =
     let script = written read (text_to_seal old) seal comment lines (ticks lacking) sealed dated
     (subst (λ (l : List ℕ). IsScriptFrom true l (ticks lacking)) (sym are) (count_script lacking some small)) in
-    subst (λ (p : Progress). Holds durability told happened p new) (sym is)
-    (ticks_broken durability told happened events lacking (seal ++ (comment ++ lines)) old new breaks tells
+    subst (λ (p : Progress). Holds durability preface told happened p new) (sym is)
+    (ticks_broken durability preface told happened events lacking (seal ++ (comment ++ lines)) old new breaks tells
     old.is_broken refl stands script)
-append_holds read durability how told happened lacking lines (Ok done) next old new (events, tells, stands) (inr (source, bytes, none, are, strong, is, fits)) (seal, comment, sealed, dated, (works, grew)) =
+append_holds read durability how preface told happened lacking lines (Ok done) next old new (events, tells, stands) (inr (source, bytes, none, are, strong, is, fits, short)) (seal, comment, sealed, dated, (works, grew)) =
     let script = written read (text_to_seal old) seal comment lines (Control source bytes ∷ []) sealed dated
     (subst (λ (l : List ℕ). IsScriptFrom true l (Control source bytes ∷ [])) (sym are) (message_script read source bytes fits)) in
-    subst (λ (p : Progress). Holds durability told happened p new) (sym is)
-    (message_done durability told happened events source bytes (seal ++ (comment ++ lines)) old new works
+    subst (λ (p : Progress). Holds durability preface told happened p new) (sym is)
+    (message_done durability preface told happened events source bytes (seal ++ (comment ++ lines)) old new works
     (grew ∙ ap (λ (d : Durability). appended (seal ++ (comment ++ lines)) d old) strong) tells
-    (subst (λ (n : ℕ). Standing old.is_broken n happened events) none stands) script)
-append_holds read durability how told happened lacking lines (Err Refused) next old new (events, tells, stands) (inr (source, bytes, none, are, strong, is, fits)) (seal, comment, sealed, dated, (works, same)) =
-    subst (λ (p : Progress). Holds durability told happened p new) (sym is)
-    (same_state durability told happened (Lacks 0) old new same
+    (subst (λ (n : ℕ). Standing old.is_broken n happened events) none stands) script short)
+append_holds read durability how preface told happened lacking lines (Err Refused) next old new (events, tells, stands) (inr (source, bytes, none, are, strong, is, fits, short)) (seal, comment, sealed, dated, (works, same)) =
+    subst (λ (p : Progress). Holds durability preface told happened p new) (sym is)
+    (same_state durability preface told happened (Lacks 0) old new same
     (events, tells, subst (λ (n : ℕ). Standing old.is_broken n happened events) none stands))
-append_holds read durability how told happened lacking lines (Err Broken) next old new (events, tells, stands) (inr (source, bytes, none, are, strong, is, fits)) (seal, comment, sealed, dated, breaks) =
+append_holds read durability how preface told happened lacking lines (Err Broken) next old new (events, tells, stands) (inr (source, bytes, none, are, strong, is, fits, short)) (seal, comment, sealed, dated, breaks) =
     let script = written read (text_to_seal old) seal comment lines (Control source bytes ∷ []) sealed dated
     (subst (λ (l : List ℕ). IsScriptFrom true l (Control source bytes ∷ [])) (sym are) (message_script read source bytes fits)) in
-    subst (λ (p : Progress). Holds durability told happened p new) (sym is)
-    (message_broken durability told happened events source bytes (seal ++ (comment ++ lines)) old new breaks tells
+    subst (λ (p : Progress). Holds durability preface told happened p new) (sym is)
+    (message_broken durability preface told happened events source bytes (seal ++ (comment ++ lines)) old new breaks tells
     old.is_broken refl (subst (λ (n : ℕ). Standing old.is_broken n happened events) none stands) script)
 
 -- ## Entries that append nothing
@@ -232,86 +239,102 @@ tick_stands true lacking happened events stands = record {
   wrote = stands.wrote;
 }
 
-tick_holds : (durability : Durability) (told happened : List Event) (lacking : ℕ) (next : Progress) (old new : JournalState)
-    → Holds durability told happened (Lacks lacking) old → next ≡ Lacks (lacking + 1) → new ≡ old
-    → Holds durability told (happened ++ Tick ∷ []) next new
-tick_holds durability told happened lacking next old new (events, tells, stands) is same =
-    subst (λ (p : Progress). Holds durability told (happened ++ Tick ∷ []) p new) (sym is)
-    (same_state durability told (happened ++ Tick ∷ []) (Lacks (lacking + 1)) old new same
+tick_holds : (durability : Durability) (preface : List ℕ) (told happened : List Event) (lacking : ℕ) (next : Progress) (old new : JournalState)
+    → Holds durability preface told happened (Lacks lacking) old → next ≡ Lacks (lacking + 1) → new ≡ old
+    → Holds durability preface told (happened ++ Tick ∷ []) next new
+tick_holds durability preface told happened lacking next old new (events, tells, stands) is same =
+    subst (λ (p : Progress). Holds durability preface told (happened ++ Tick ∷ []) p new) (sym is)
+    (same_state durability preface told (happened ++ Tick ∷ []) (Lacks (lacking + 1)) old new same
     (events, tells, tick_stands old.is_broken lacking happened events stands))
 
 -- After the announced message is handled, the journal still has everything that happened.
-handled_holds : (durability : Durability) (told happened : List Event) (source : Peer) (bytes : List ℕ) (old : JournalState)
-    → Holds durability told happened (Announces source bytes) old
-    → Holds durability told (happened ++ Control source bytes ∷ []) (Lacks 0) old
-handled_holds durability told happened source bytes old (tells, works, synced) =
+handled_holds : (durability : Durability) (preface : List ℕ) (told happened : List Event) (source : Peer) (bytes : List ℕ) (old : JournalState)
+    → Holds durability preface told happened (Announces source bytes) old
+    → Holds durability preface told (happened ++ Control source bytes ∷ []) (Lacks 0) old
+handled_holds durability preface told happened source bytes old (tells, works, synced, short) =
     let all = happened ++ Control source bytes ∷ [] in
     (all, tells, subst (λ (b : Bool). Standing b 0 all all) (sym works) (sym (append-nil all)))
 
-no_event : (durability : Durability) (told happened : List Event) (lacking : ℕ) (next : Progress) (old new : JournalState)
-    → Holds durability told happened (Lacks lacking) old → next ≡ Lacks lacking → new ≡ old
-    → Holds durability told (happened ++ []) next new
-no_event durability told happened lacking next old new holds is same =
-    subst (λ (l : List Event). Holds durability told l next new) (sym (append-nil happened))
-    (subst (λ (p : Progress). Holds durability told happened p new) (sym is)
-    (same_state durability told happened (Lacks lacking) old new same holds))
+no_event : (durability : Durability) (preface : List ℕ) (told happened : List Event) (lacking : ℕ) (next : Progress) (old new : JournalState)
+    → Holds durability preface told happened (Lacks lacking) old → next ≡ Lacks lacking → new ≡ old
+    → Holds durability preface told (happened ++ []) next new
+no_event durability preface told happened lacking next old new holds is same =
+    subst (λ (l : List Event). Holds durability preface told l next new) (sym (append-nil happened))
+    (subst (λ (p : Progress). Holds durability preface told happened p new) (sym is)
+    (same_state durability preface told happened (Lacks lacking) old new same holds))
 
 -- ## Traces
 
-abbrev pub after_entry : List Event → TraceEntry → List Event
-after_entry happened entry = happened ++ without_rtp (events_of_trace (entry ∷ []))
+-- A message that isn't oversized lasts, and an oversized one doesn't.
+pub lasts : (source : Peer) (bytes : List ℕ) (events : List Event) → is_oversized (Control source bytes) ≡ false
+    → lasting (Control source bytes ∷ events) ≡ Control source bytes ∷ lasting events
+lasts source bytes events short = rw short refl
 
-entry_holds : RecordingsAreRead → (durability : Durability) (told happened : List Event)
-    (progress next : Progress) (one : TraceEntry) (old new : JournalState) → Holds durability told happened progress old
-    → Advances durability progress one next → JournalAfter (calls_of (one ∷ [])) old new
-    → Holds durability told (after_entry happened one) next new
-entry_holds read durability told happened (Announces source bytes) next one old new holds (is, at) after =
+pub lasts_not : (source : Peer) (bytes : List ℕ) (events : List Event) → is_oversized (Control source bytes) ≡ true
+    → lasting (Control source bytes ∷ events) ≡ lasting events
+lasts_not source bytes events large = rw large refl
+
+abbrev pub after_entry : List Event → TraceEntry → List Event
+after_entry happened entry = happened ++ lasting (events_of_trace (entry ∷ []))
+
+entry_holds : RecordingsAreRead → (durability : Durability) (preface : List ℕ) (told happened : List Event)
+    (progress next : Progress) (one : TraceEntry) (old new : JournalState) → Holds durability preface told happened progress old
+    → Advances durability progress one next → list_any is_renewal (calls_of (one ∷ [])) ≡ false
+    → JournalAfter (calls_of (one ∷ [])) old new
+    → Holds durability preface told (after_entry happened one) next new
+entry_holds read durability preface told happened (Announces source bytes) next one old new holds (is, at) stays after =
+    let one_more : happened ++ lasting (Control source bytes ∷ []) ≡ happened ++ Control source bytes ∷ [] =
+    ap (λ (l : List Event). happened ++ l) (lasts source bytes [] holds.3) in
     let mine : JournalAfter (calls_of (Happened (Control source bytes) ∷ [])) old new =
     subst (λ (e : TraceEntry). JournalAfter (calls_of (e ∷ [])) old new) is after in
-    subst (λ (e : TraceEntry). Holds durability told (after_entry happened e) next new) (sym is)
-    (subst (λ (p : Progress). Holds durability told (happened ++ Control source bytes ∷ []) p new) (sym at)
-    (same_state durability told (happened ++ Control source bytes ∷ []) (Lacks 0) old new mine
-    (handled_holds durability told happened source bytes old holds)))
-entry_holds read durability told happened (Lacks n) next (Called (Append lines how result)) old new holds step (mid, dated, same) =
-    subst (λ (l : List Event). Holds durability told l next new) (sym (append-nil happened))
-    (same_state durability told happened next mid new same
-    (append_holds read durability how told happened n lines result next old mid holds step dated))
-entry_holds read durability told happened (Lacks n) next (Called (Receive socket receipt)) old new holds step after =
-    no_event durability told happened n next old new holds step after
-entry_holds read durability told happened (Lacks n) next (Called (Send socket to bytes)) old new holds step after =
-    no_event durability told happened n next old new holds step after
-entry_holds read durability told happened (Lacks n) next (Called (BeginTick timing)) old new holds step after =
-    no_event durability told happened n next old new holds step after
-entry_holds read durability told happened (Lacks n) next (Happened (Control source bytes)) old new holds step after =
-    absurd step
-entry_holds read durability told happened (Lacks n) next (Happened (Media port source bytes)) old new holds step after =
-    no_event durability told happened n next old new holds step after
-entry_holds read durability told happened (Lacks n) next (Happened Tick) old new holds step after =
-    tick_holds durability told happened n next old new holds step after
-entry_holds read durability told happened (Lacks n) next (Printed text) old new holds step after =
-    no_event durability told happened n next old new holds step after
-entry_holds read durability told happened (Lacks n) next (Noted text) old new holds step after =
-    no_event durability told happened n next old new holds step after
-entry_holds read durability told happened (Lacks n) next (Stale source bytes) old new holds step after =
-    no_event durability told happened n next old new holds step after
+    subst (λ (e : TraceEntry). Holds durability preface told (after_entry happened e) next new) (sym is)
+    (subst (λ (l : List Event). Holds durability preface told l next new) (sym one_more)
+    (subst (λ (p : Progress). Holds durability preface told (happened ++ Control source bytes ∷ []) p new) (sym at)
+    (same_state durability preface told (happened ++ Control source bytes ∷ []) (Lacks 0) old new mine
+    (handled_holds durability preface told happened source bytes old holds))))
+entry_holds read durability preface told happened (Lacks n) next (Called (Append lines how result)) old new holds step stays (mid, dated, same) =
+    subst (λ (l : List Event). Holds durability preface told l next new) (sym (append-nil happened))
+    (same_state durability preface told happened next mid new same
+    (append_holds read durability how preface told happened n lines result next old mid holds step dated))
+entry_holds read durability preface told happened (Lacks n) next (Called (Renew text how (Ok done))) old new holds step stays after =
+    absurd cc
+entry_holds read durability preface told happened (Lacks n) next (Called (Renew text how (Err fault))) old new holds (same, step) stays (mid, (follows, comment, follow, dated, kept), after) =
+    no_event durability preface told happened n next old new holds step (after ∙ kept)
+entry_holds read durability preface told happened (Lacks n) next (Called (Receive socket receipt)) old new holds step stays after =
+    no_event durability preface told happened n next old new holds step after
+entry_holds read durability preface told happened (Lacks n) next (Called (Send socket to bytes)) old new holds step stays after =
+    no_event durability preface told happened n next old new holds step after
+entry_holds read durability preface told happened (Lacks n) next (Called (BeginTick timing)) old new holds step stays after =
+    no_event durability preface told happened n next old new holds step after
+entry_holds read durability preface told happened (Lacks n) next (Happened (Control source bytes)) old new holds (large, step) stays after =
+    subst (λ (l : List Event). Holds durability preface told (happened ++ l) next new) (sym (lasts_not source bytes [] large))
+    (no_event durability preface told happened n next old new holds step after)
+entry_holds read durability preface told happened (Lacks n) next (Happened (Media port source bytes)) old new holds step stays after =
+    no_event durability preface told happened n next old new holds step after
+entry_holds read durability preface told happened (Lacks n) next (Happened Tick) old new holds step stays after =
+    tick_holds durability preface told happened n next old new holds step after
+entry_holds read durability preface told happened (Lacks n) next (Printed text) old new holds step stays after =
+    no_event durability preface told happened n next old new holds step after
+entry_holds read durability preface told happened (Lacks n) next (Noted text) old new holds step stays after =
+    no_event durability preface told happened n next old new holds step after
+entry_holds read durability preface told happened (Lacks n) next (Stale source bytes) old new holds step stays after =
+    no_event durability preface told happened n next old new holds step after
 
 -- ## The parts of a trace
 
 pub quiet_both : (p q : List TraceEntry) →
-    without_rtp (events_of_trace (p ++ q)) ≡ without_rtp (events_of_trace p) ++ without_rtp (events_of_trace q)
-quiet_both [] q = refl
-quiet_both (Called call ∷ p) q = quiet_both p q
-quiet_both (Happened (Control source bytes) ∷ p) q = ap (λ (l : List Event). Control source bytes ∷ l) (quiet_both p q)
-quiet_both (Happened (Media port source bytes) ∷ p) q = quiet_both p q
-quiet_both (Happened Tick ∷ p) q = ap (λ (l : List Event). Tick ∷ l) (quiet_both p q)
-quiet_both (Printed text ∷ p) q = quiet_both p q
-quiet_both (Noted text ∷ p) q = quiet_both p q
-quiet_both (Stale source bytes ∷ p) q = quiet_both p q
+    lasting (events_of_trace (p ++ q)) ≡ lasting (events_of_trace p) ++ lasting (events_of_trace q)
+quiet_both p q =
+    ap lasting (events_both p q)
+    ∙ filter-append (λ e. not (is_media e) && not (is_oversized e)) (events_of_trace p) (events_of_trace q)
 
 pub after_parts : (p q : List Call) (old new : JournalState) → JournalAfter (p ++ q) old new
     → (mid : JournalState) × JournalAfter p old mid × JournalAfter q mid new
 after_parts [] q old new after = (old, refl, after)
 after_parts (Append lines how result ∷ p) q old new (next, dated, after) =
+    let (mid, first, other) = after_parts p q next new after in
+    (mid, (next, dated, first), other)
+after_parts (Renew text how result ∷ p) q old new (next, dated, after) =
     let (mid, first, other) = after_parts p q next new after in
     (mid, (next, dated, first), other)
 after_parts (Receive socket receipt ∷ p) q old new after = after_parts p q old new after
@@ -325,30 +348,42 @@ journals_parts durability old new (one ∷ p) q (next, step, js) =
     let (mid, first, other) = journals_parts durability next new p q js in
     (mid, (next, step, first), other)
 
+or_false : (a b : Bool) → (a || b) ≡ false → (a ≡ false) × (b ≡ false)
+or_false true b h = absurd cc
+or_false false b h = (refl, h)
+
+-- If a trace has no successful renewal, neither have its parts.
+pub unrenewed_parts : (p q : List TraceEntry) → list_any is_renewal (calls_of (p ++ q)) ≡ false →
+    (list_any is_renewal (calls_of p) ≡ false) × (list_any is_renewal (calls_of q) ≡ false)
+unrenewed_parts p q stays =
+    or_false (list_any is_renewal (calls_of p)) (list_any is_renewal (calls_of q))
+    (sym (ap (list_any is_renewal) (calls_both p q) ∙ list_any-append is_renewal (calls_of p) (calls_of q)) ∙ stays)
+
 -- After a trace, the journal still has the events of the session.
-pub trace_holds : RecordingsAreRead → (durability : Durability) (told happened : List Event)
-    (trace : List TraceEntry) (progress next : Progress) (old new : JournalState) → Holds durability told happened progress old
-    → Journals durability progress trace next → JournalAfter (calls_of trace) old new
-    → Holds durability told (happened ++ without_rtp (events_of_trace trace)) next new
-trace_holds read durability told happened [] progress next old new holds js after =
-    subst (λ (l : List Event). Holds durability told l next new) (sym (append-nil happened))
-    (subst (λ (p : Progress). Holds durability told happened p new) (sym js)
-    (same_state durability told happened progress old new after holds))
-trace_holds read durability told happened (one ∷ trace) progress next old new holds (mid, step, js) after =
+pub trace_holds : RecordingsAreRead → (durability : Durability) (preface : List ℕ) (told happened : List Event)
+    (trace : List TraceEntry) (progress next : Progress) (old new : JournalState) → Holds durability preface told happened progress old
+    → Journals durability progress trace next → list_any is_renewal (calls_of trace) ≡ false
+    → JournalAfter (calls_of trace) old new → Holds durability preface told (happened ++ lasting (events_of_trace trace)) next new
+trace_holds read durability preface told happened [] progress next old new holds js stays after =
+    subst (λ (l : List Event). Holds durability preface told l next new) (sym (append-nil happened))
+    (subst (λ (p : Progress). Holds durability preface told happened p new) (sym js)
+    (same_state durability preface told happened progress old new after holds))
+trace_holds read durability preface told happened (one ∷ trace) progress next old new holds (mid, step, js) stays after =
+    let apart = unrenewed_parts (one ∷ []) trace stays in
     let (state, first, others) =
     after_parts (calls_of (one ∷ [])) (calls_of trace) old new
     (subst (λ (l : List Call). JournalAfter l old new) (calls_both (one ∷ []) trace) after) in
-    let here = entry_holds read durability told happened progress mid one old state holds step first in
-    let there = trace_holds read durability told (after_entry happened one) trace mid next state new here js others in
-    subst (λ (l : List Event). Holds durability told l next new)
-    (append_assoc happened (without_rtp (events_of_trace (one ∷ []))) (without_rtp (events_of_trace trace))
+    let here = entry_holds read durability preface told happened progress mid one old state holds step apart.0 first in
+    let there = trace_holds read durability preface told (after_entry happened one) trace mid next state new here js apart.1 others in
+    subst (λ (l : List Event). Holds durability preface told l next new)
+    (append_assoc happened (lasting (events_of_trace (one ∷ []))) (lasting (events_of_trace trace))
     ∙ ap (λ (l : List Event). happened ++ l) (sym (quiet_both (one ∷ []) trace))) there
 
 -- At the start, the journal has only its earlier events.
-pub start_holds : (durability : Durability) (told : List Event) (journal : JournalState) → TellsEvents journal told
-    → Holds durability told [] (Lacks 0) journal
-start_holds durability told journal tells =
-    ([], subst (λ (l : List Event). TellsEvents journal l) (sym (append-nil told)) tells, stands journal.is_broken)
+pub start_holds : (durability : Durability) (preface : List ℕ) (told : List Event) (journal : JournalState) → TellsEvents preface journal told
+    → Holds durability preface told [] (Lacks 0) journal
+start_holds durability preface told journal tells =
+    ([], subst (λ (l : List Event). TellsEvents preface journal l) (sym (append-nil told)) tells, stands journal.is_broken)
   where
     stands : (b : Bool) → Standing b 0 [] []
     stands false = refl

@@ -22,7 +22,7 @@ use Rattle.mg_core.proofs.RunLemmas.{events_both}
 use Rattle.mg_chain.specs.Seals.{IsSeal, is_seal}
 use Rattle.mg_chain.proofs.SealLemmas.{seal_line, seal_text}
 use Rattle.mg_ports.specs.Journaled.{IsComment}
-use Rattle.mg_serve.specs.JournalLaws.{IsScriptOf}
+use Rattle.mg_serve.specs.JournalLaws.{IsJournalOf}
 
 -- ## The lines of complete text
 
@@ -153,18 +153,22 @@ marked_both x y whole =
     ap (λ (l : List (List ℕ)). list_any is_mark l) (text_lines x y whole)
     ∙ list_any-append is_mark (lines_of true x) (lines_of true y)
 
-stays_marked : (x y : List ℕ) → IsWhole x → marked x ≡ true → marked (x ++ y) ≡ true
+pub stays_marked : (x y : List ℕ) → IsWhole x → marked x ≡ true → marked (x ++ y) ≡ true
 stays_marked x y whole is = marked_both x y whole ∙ ap (λ (b : Bool). b || marked y) is
 
--- Suppose text is a script, or is unknown. If a script is appended, the result is a script of the events of both parts,
--- or is unknown.
-pub known_more : (known : Option (List ℕ)) (y : List ℕ) (es fs : List Event)
-    → IfSome known (λ text. IsScriptOf text es × (marked text ≡ true)) → IsScriptFrom true y fs
-    → IfSome (append_known known y) (λ text. IsScriptOf text (es ++ fs) × (marked text ≡ true))
-known_more None y es fs one other = tt
-known_more (Some x) y es fs one other = (
-  script_more false x y es fs one.0 (subst (λ (b : Bool). IsScriptFrom b y fs) (sym one.1) other),
-  stays_marked x y one.0.0 one.1,
+-- The text, if it is known, is the preface and a script of these events.
+abbrev pub Tells : (preface : List ℕ) → Option (List ℕ) → List Event → Type 0
+Tells preface known events = IfSome known (λ text. IsJournalOf preface text events)
+
+-- If a script is appended to known text, the result tells the events of both parts.
+pub known_more : (preface : List ℕ) (known : Option (List ℕ)) (y : List ℕ) (es fs : List Event) → Tells preface known es
+    → IsScriptFrom true y fs → Tells preface (append_known known y) (es ++ fs)
+known_more preface None y es fs one other = tt
+known_more preface (Some x) y es fs (tail, is, script, marks) other = (
+  tail ++ y,
+  ap (λ (l : List ℕ). l ++ y) is ∙ append_assoc preface tail y,
+  script_more false tail y es fs script (subst (λ (b : Bool). IsScriptFrom b y fs) (sym marks) other),
+  stays_marked tail y script.0 marks,
 )
 
 before_both : (e : Option Event) (l fs : List Event) → then_all e (l ++ fs) ≡ then_all e l ++ fs

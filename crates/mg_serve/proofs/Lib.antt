@@ -1,10 +1,12 @@
 pub mod Printing
+pub mod AppendLemmas
 pub mod JournalLemmas
 pub mod FenceLemmas
 pub mod FenceProofs
 pub mod OneLine
 pub mod Taking
 pub mod Appending
+pub mod Renewing
 pub mod Steps
 pub mod Reading
 pub mod Running
@@ -17,6 +19,8 @@ pub mod JournalAnswers
 pub mod JournalSteps
 pub mod JournalText
 pub mod JournalCrashes
+pub mod JournalRenewals
+pub mod JournalParts
 pub mod JournalCuts
 pub mod JournalFlows
 pub mod JournalPower

@@ -1,9 +1,11 @@
 -- A recording of a session is a script of its events.
-use Rattle.std.proofs.Common.{◌≡◌, ◌≢◌, ℕ, ◌+◌, ◌<◌, inl, inr, Bool, true, false, zero, suc, List, [], ◌∷◌, ◌++◌, length, not, Option, Some, refl, sym, ap, subst, ◌∙◌, arith, codes, true≢false, ◌==◌, All, Err}
+use Rattle.std.proofs.Common.{◌≡◌, ◌≢◌, ℕ, ◌+◌, ◌<◌, inl, inr, Bool, true, false, zero, suc, List, [], ◌∷◌, ◌++◌, length, not, Option, Some, refl, sym, ap, subst, ◌∙◌, arith, codes, true≢false, ◌==◌, All}
 use Rattle.std.proofs.lemmas.List.Elements.{All-nil, All-cons, All-head, All-tail, All-append, All-same, All-take, All-weaker, filter_passes}
 use Rattle.std.proofs.lemmas.Bool.{eq-eqb}
 use Rattle.std.specs.Io.KnownBytes.{Appends}
 use Rattle.std.specs.List.{filter, range_with_len}
+use Rattle.mg_checkpoint.specs.Checkpoint.{checkpoint_text}
+use Rattle.mg_serve.specs.Renewal.{renewal_text}
 use Rattle.mg_serve.specs.Setup.{Setup, is_admitted}
 use Rattle.mg_words.specs.declared.peer.Peer.{Peer}
 use Rattle.mg_engine.specs.Config.{IsValidConfig}
@@ -17,14 +19,15 @@ use Rattle.mg_core.specs.Step.{Sent, Run}
 use Rattle.mg_core.specs.World.{World, start_of}
 use Rattle.mg_lines.specs.Lines.{lines_of}
 use Rattle.mg_ports.specs.declared.call.Call.{Call}
-use Rattle.mg_ports.specs.declared.call.Call.TheVariants.{Receive, BeginTick, Append}
+use Rattle.mg_ports.specs.declared.call.Call.TheVariants.{Receive, BeginTick, Renew}
 use Rattle.mg_ports.specs.declared.receipt.Receipt.TheVariants.{Delivered, Nothing, Failed}
 use Rattle.mg_serve.specs.declared.command.Command.{Command}
 use Rattle.mg_serve.specs.declared.command.Command.TheVariants.{Poll, Tick, Stats, Quit, Unknown}
 use Rattle.mg_serve.specs.declared.form.Form.TheVariants.{Recording}
+use Rattle.mg_serve.proofs.AppendLemmas.{IsAppend, only_appends}
 use Rattle.mg_serve.specs.Theorems.{CutSessionsAreReadBack, ReplaysAreTheSession, SessionsAreReadBack, recorded}
 use Rattle.mg_serve.specs.Serve.{opening}
-use Rattle.mg_serve.specs.Session.{Each, Becomes, ReceivesDatagram, Performs, EndsTurn, HandlesDatagram, HandlesEvent, IsAppended, MayAppend, Session, SocketTurn, event_at, sends_of}
+use Rattle.mg_serve.specs.Session.{Each, Becomes, ReceivesDatagram, Performs, EndsTurn, HandlesDatagram, HandlesEvent, AppendsFor, MayRenew, Session, SocketTurn, event_at, sends_of}
 use Rattle.mg_serve.specs.Trace.{TraceEntry, Called, Happened, Printed, Noted, Stale, events_of_trace, one_line, output_of}
 use Rattle.mg_serve.proofs.OneLine.{short}
 use Rattle.mg_serve.proofs.Runs.{session_run}
@@ -137,30 +140,34 @@ datagram_read setup (suc s) source bytes valid lt fits = (omega (arith, lt, vali
 called_read : (call : Call) → AreRead (Called call ∷ [])
 called_read call = All-nil IsRecorded
 
-appended_read : (p : List TraceEntry) → All IsAppended p → AreRead p
-appended_read [] all = All-nil IsRecorded
-appended_read (Called call ∷ p) all = appended_read p (All-tail IsAppended (Called call) p all)
-appended_read (Happened event ∷ p) all = absurd (All-head IsAppended (Happened event) p all)
-appended_read (Printed text ∷ p) all = absurd (All-head IsAppended (Printed text) p all)
-appended_read (Noted text ∷ p) all = absurd (All-head IsAppended (Noted text) p all)
-appended_read (Stale source bytes ∷ p) all = absurd (All-head IsAppended (Stale source bytes) p all)
+appends_read : (p : List TraceEntry) → All IsAppend p → AreRead p
+appends_read [] all = All-nil IsRecorded
+appends_read (Called call ∷ p) all = appends_read p (All-tail IsAppend (Called call) p all)
+appends_read (Happened event ∷ p) all = absurd (All-head IsAppend (Happened event) p all)
+appends_read (Printed text ∷ p) all = absurd (All-head IsAppend (Printed text) p all)
+appends_read (Noted text ∷ p) all = absurd (All-head IsAppend (Noted text) p all)
+appends_read (Stale source bytes ∷ p) all = absurd (All-head IsAppend (Stale source bytes) p all)
 
-may_read : (p : List TraceEntry) → MayAppend p → AreRead p
-may_read p (inl none) = read_as p [] none (All-nil IsRecorded)
-may_read p (inr (lines, durability, result, is)) =
-    let append = Append lines durability result in read_as p (Called append ∷ []) is (called_read append)
+may_read : (event : Event) (failed : Bool) (p : List TraceEntry) → AppendsFor event failed p → AreRead p
+may_read event failed p h = appends_read p (only_appends event failed p h)
+
+renewal_read : (setup : Setup) (w : World) (p : List TraceEntry) → MayRenew setup w p → AreRead p
+renewal_read setup w p (inl none) = read_as p [] none (All-nil IsRecorded)
+renewal_read setup w p (inr (appends, failed, are, reached, durability, result, is, fits, restorable)) =
+    let renew = Renew (renewal_text setup.head (checkpoint_text w) reached) durability result in
+    read_as p (appends ++ Called renew ∷ []) is
+    (read_both appends (Called renew ∷ []) (may_read events.Tick failed appends are) (called_read renew))
 
 handled_read : (setup : Setup) (socket : ℕ) (event : Event) (w next : World) (p : List TraceEntry) →
     IsRecorded (entry.Happened event) → HandlesDatagram setup socket event w p next → AreRead p
-handled_read setup zero event w next p fits (appended, others, is, all, inl h) =
-    read_as p (appended ++ others) is
-    (read_both appended others (appended_read appended all) (event_read setup event w next others fits h))
-handled_read setup zero event w next p fits (appended, others, is, all, inr (lines, durability, fault, last, same, before)) =
-    let append = Append lines durability (Err fault) in
+handled_read setup zero event w next p fits (appends, others, is, inl (are, h)) =
+    read_as p (appends ++ others) is
+    (read_both appends others (may_read event false appends are) (event_read setup event w next others fits h))
+handled_read setup zero event w next p fits (appends, others, is, inr (are, (last, same))) =
     let text = codes "no journal for a control datagram" in
-    read_as p (appended ++ others) is
-    (read_both appended others (appended_read appended all)
-    (read_as others (Called append ∷ Noted text ∷ []) last (noted_read text)))
+    read_as p (appends ++ others) is
+    (read_both appends others (may_read event true appends are)
+    (read_as others (Noted text ∷ []) last (noted_read text)))
 handled_read setup (suc s) event w next p fits h = event_read setup event w next p fits h
 
 become_read : (admitted : Bool) (setup : Setup) (socket : ℕ) → IsValidConfig setup.config →
@@ -199,34 +206,35 @@ does_read : (setup : Setup) → IsValidConfig setup.config → (command : Comman
 does_read setup valid Poll w next p h =
     sockets_read (SocketTurn setup) 0 (setup.config.slots + 1)
     (λ socket v last q lt. turn_read setup valid socket v last q (omega (arith, lt))) w next p h
-does_read setup valid (Tick timing) w next p (happening, appends, is, h, may) =
-    read_as p (Called (BeginTick timing) ∷ (happening ++ appends)) is
-    (read_both happening appends (event_read setup events.Tick w next happening tt h) (may_read appends may))
+does_read setup valid (Tick timing) w next p (happening, appends, renewal, is, h, failed, may, renews) =
+    read_as p (Called (BeginTick timing) ∷ (happening ++ (appends ++ renewal))) is
+    (read_both happening (appends ++ renewal) (event_read setup events.Tick w next happening tt h)
+    (read_both appends renewal (may_read events.Tick failed appends may) (renewal_read setup next renewal renews)))
 does_read setup valid Stats w next p (text, is, same) = read_as p (Printed text ∷ []) is (printed_read text)
 does_read setup valid Quit w next p h = read_as p [] h.0 (All-nil IsRecorded)
 does_read setup valid Unknown w next p h =
     read_as p (Printed (codes "unknown command") ∷ []) h.0 (printed_read (codes "unknown command"))
 
-session_read : (setup : Setup) (title : List ℕ) (commands : List Command) (next : World) (p : List TraceEntry) →
-    IsValidConfig setup.config → Session setup commands (start_of setup.config) p next → AreRead (opening (Some title) ++ p)
-session_read setup title commands next p valid h =
+session_read : (setup : Setup) (title : List ℕ) (commands : List Command) (w next : World) (p : List TraceEntry) →
+    IsValidConfig setup.config → Session setup commands w p next → AreRead (opening (Some title) ++ p)
+session_read setup title commands w next p valid h =
     read_both (opening (Some title)) p
     (read_both (Noted title ∷ []) (Printed (codes "ready") ∷ []) (noted_read title) (printed_read (codes "ready")))
-    (each_read (Performs setup) (does_read setup valid) commands (start_of setup.config) next p h)
+    (each_read (Performs setup) (does_read setup valid) commands w next p h)
 
 -- ## Recordings repeat the session
 
 pub read_back : RecordingsAreRead → SessionsAreReadBack
-read_back law setup title commands next p valid h =
+read_back law setup title commands w next p valid h =
     let all = opening (Some title) ++ p in
-    rw (recording_is all) (law (entries_of all) (session_read setup title commands next p valid h)) ∙
+    rw (recording_is all) (law (entries_of all) (session_read setup title commands w next p valid h)) ∙
     ap (λ (es : List Event). Some es) (events_are all)
 
 pub cut_read_back : CutRecordingsAreRead → CutSessionsAreReadBack
-cut_read_back law setup title commands next p front rest valid h parts =
+cut_read_back law setup title commands w next p front rest valid h parts =
     let all = opening (Some title) ++ p in
     let (first, others, is, read) =
-    law (entries_of all) front rest (session_read setup title commands next p valid h) (sym (recording_is all) ∙ parts)
+    law (entries_of all) front rest (session_read setup title commands w next p valid h) (sym (recording_is all) ∙ parts)
     in (
       events_in first,
       events_in others,
@@ -253,7 +261,7 @@ replayed law one setup title commands next p counts old new valid h ran =
     let same : ran.ran.events ≡ events_of_trace p =
     same_events (script.events_of (lines_of true (recorded title p)))
     (script.events_of (lines_of true (recorded title p))) ran.ran.events (events_of_trace p) ran.ran.are
-    (read_back law setup title commands next p valid h) refl in
+    (read_back law setup title commands (start_of setup.config) next p valid h) refl in
     let both = one (start_of setup.config) (events_of_trace p) ran.ran.sent session.sent ran.last next
     (subst (λ (es : List Event). Run (start_of setup.config) es ran.ran.sent ran.last) same ran.ran.run) session.run in
     record {

@@ -1,8 +1,10 @@
 -- The events of a session form a run of the gateway.
-use Rattle.std.proofs.Common.{◌≡◌, ℕ, ◌+◌, inl, inr, Bool, true, false, List, [], ◌∷◌, ◌++◌, length, map, zero, suc, All, Err, refl, sym, ap, subst, ◌∙◌, append_assoc, codes}
+use Rattle.std.proofs.Common.{◌≡◌, ℕ, ◌+◌, inl, inr, Bool, true, false, List, [], ◌∷◌, ◌++◌, length, map, zero, suc, All, refl, sym, ap, subst, ◌∙◌, append_assoc, codes}
 use Rattle.std.proofs.lemmas.List.{append-nil, map-append}
 use Rattle.std.proofs.lemmas.List.Elements.{All-head, All-tail, filter-append}
 use Rattle.std.specs.List.{filter, range_with_len}
+use Rattle.mg_checkpoint.specs.Checkpoint.{checkpoint_text}
+use Rattle.mg_serve.specs.Renewal.{renewal_text}
 use Rattle.mg_serve.specs.Setup.{Setup, is_admitted}
 use Rattle.mg_words.specs.declared.peer.Peer.{Peer}
 use Rattle.mg_core.specs.declared.event.Event.{Event}
@@ -10,12 +12,13 @@ use Rattle.mg_core.specs.declared.event.Event.TheVariants as events
 use Rattle.mg_core.specs.World.{World}
 use Rattle.mg_core.specs.Step.{Sent, Reply, Packet, Run}
 use Rattle.mg_ports.specs.declared.call.Call.{Call}
-use Rattle.mg_ports.specs.declared.call.Call.TheVariants.{Receive, Send, BeginTick, Append}
+use Rattle.mg_ports.specs.declared.call.Call.TheVariants.{Receive, Send, BeginTick, Append, Renew}
 use Rattle.mg_ports.specs.declared.receipt.Receipt.TheVariants.{Delivered, Nothing, Failed}
 use Rattle.mg_serve.specs.declared.command.Command.{Command}
 use Rattle.mg_serve.specs.declared.command.Command.TheVariants.{Poll, Tick, Stats, Quit, Unknown}
 use Rattle.mg_serve.specs.Theorems.{SendsAreARun, is_send}
-use Rattle.mg_serve.specs.Session.{Each, Becomes, ReceivesDatagram, Performs, EndsTurn, HandlesDatagram, HandlesEvent, IsAppended, MayAppend, Session, SocketTurn, event_at, send_of, sends_of}
+use Rattle.mg_serve.proofs.AppendLemmas.{IsAppend, only_appends}
+use Rattle.mg_serve.specs.Session.{Each, Becomes, ReceivesDatagram, Performs, EndsTurn, HandlesDatagram, HandlesEvent, AppendsFor, MayRenew, Session, SocketTurn, event_at, send_of, sends_of}
 use Rattle.mg_serve.specs.Trace.{TraceEntry, Called, Happened, Printed, Noted, Stale, calls_of, events_of_trace}
 use Rattle.mg_serve.proofs.Printing.{calls_both}
 
@@ -99,34 +102,39 @@ event_ran setup event w next p (sent, step, is) = ran_as setup w next p (Happene
 
 -- ## A poll
 
-appended_ran : (setup : Setup) (w : World) (p : List TraceEntry) → All IsAppended p → SendsAreARun setup w p w
-appended_ran setup w [] all = no_run setup w w [] refl refl refl
-appended_ran setup w (Called (Append lines durability result) ∷ p) all =
+appends_ran : (setup : Setup) (w : World) (p : List TraceEntry) → All IsAppend p → SendsAreARun setup w p w
+appends_ran setup w [] all = no_run setup w w [] refl refl refl
+appends_ran setup w (Called (Append lines durability result) ∷ p) all =
     let append = Called (Append lines durability result) in
     ran_both setup w w w (append ∷ []) p (no_run setup w w (append ∷ []) refl refl refl)
-    (appended_ran setup w p (All-tail IsAppended append p all))
-appended_ran setup w (Called (Receive socket receipt) ∷ p) all =
-    absurd (All-head IsAppended (Called (Receive socket receipt)) p all)
-appended_ran setup w (Called (Send socket to bytes) ∷ p) all =
-    absurd (All-head IsAppended (Called (Send socket to bytes)) p all)
-appended_ran setup w (Called (BeginTick timing) ∷ p) all =
-    absurd (All-head IsAppended (Called (BeginTick timing)) p all)
-appended_ran setup w (Happened event ∷ p) all = absurd (All-head IsAppended (Happened event) p all)
-appended_ran setup w (Printed text ∷ p) all = absurd (All-head IsAppended (Printed text) p all)
-appended_ran setup w (Noted text ∷ p) all = absurd (All-head IsAppended (Noted text) p all)
-appended_ran setup w (Stale source bytes ∷ p) all = absurd (All-head IsAppended (Stale source bytes) p all)
+    (appends_ran setup w p (All-tail IsAppend append p all))
+appends_ran setup w (Called (Receive socket receipt) ∷ p) all =
+    absurd (All-head IsAppend (Called (Receive socket receipt)) p all)
+appends_ran setup w (Called (Send socket to bytes) ∷ p) all =
+    absurd (All-head IsAppend (Called (Send socket to bytes)) p all)
+appends_ran setup w (Called (BeginTick timing) ∷ p) all =
+    absurd (All-head IsAppend (Called (BeginTick timing)) p all)
+appends_ran setup w (Called (Renew text durability result) ∷ p) all =
+    absurd (All-head IsAppend (Called (Renew text durability result)) p all)
+appends_ran setup w (Happened event ∷ p) all = absurd (All-head IsAppend (Happened event) p all)
+appends_ran setup w (Printed text ∷ p) all = absurd (All-head IsAppend (Printed text) p all)
+appends_ran setup w (Noted text ∷ p) all = absurd (All-head IsAppend (Noted text) p all)
+appends_ran setup w (Stale source bytes ∷ p) all = absurd (All-head IsAppend (Stale source bytes) p all)
+
+may_run : (setup : Setup) (w : World) (event : Event) (failed : Bool) (p : List TraceEntry) → AppendsFor event failed p →
+    SendsAreARun setup w p w
+may_run setup w event failed p h = appends_ran setup w p (only_appends event failed p h)
 
 datagram_ran : (setup : Setup) (socket : ℕ) (event : Event) (w next : World) (p : List TraceEntry) →
     HandlesDatagram setup socket event w p next → SendsAreARun setup w p next
-datagram_ran setup zero event w next p (appended, others, is, all, inl h) =
-    ran_as setup w next p (appended ++ others) is
-    (ran_both setup w w next appended others (appended_ran setup w appended all)
+datagram_ran setup zero event w next p (appends, others, is, inl (are, h)) =
+    ran_as setup w next p (appends ++ others) is
+    (ran_both setup w w next appends others (may_run setup w event false appends are)
     (event_ran setup event w next others h))
-datagram_ran setup zero event w next p (appended, others, is, all, inr (lines, durability, fault, last, same, before)) =
-    let refused = Called (Append lines durability (Err fault)) ∷ Noted (codes "no journal for a control datagram") ∷ []
-    in
-    ran_as setup w next p (appended ++ others) is
-    (ran_both setup w w next appended others (appended_ran setup w appended all)
+datagram_ran setup zero event w next p (appends, others, is, inr (are, (last, same))) =
+    let refused = Noted (codes "no journal for a control datagram") ∷ [] in
+    ran_as setup w next p (appends ++ others) is
+    (ran_both setup w w next appends others (may_run setup w event true appends are)
     (ran_as setup w next others refused last (no_run setup w next refused refl refl same)))
 datagram_ran setup (suc s) event w next p h = event_ran setup event w next p h
 
@@ -169,22 +177,26 @@ turn_ran setup socket w next p h = ran_as setup w next p (h.received ++ h.last) 
 
 -- ## Commands
 
-may_run : (setup : Setup) (w : World) (p : List TraceEntry) → MayAppend p → SendsAreARun setup w p w
-may_run setup w p (inl none) = ran_as setup w w p [] none (no_run setup w w [] refl refl refl)
-may_run setup w p (inr (lines, durability, result, is)) =
-    let append = Called (Append lines durability result) in
-    ran_as setup w w p (append ∷ []) is (no_run setup w w (append ∷ []) refl refl refl)
+renewal_run : (setup : Setup) (w : World) (p : List TraceEntry) → MayRenew setup w p → SendsAreARun setup w p w
+renewal_run setup w p (inl none) = ran_as setup w w p [] none (no_run setup w w [] refl refl refl)
+renewal_run setup w p (inr (appends, failed, are, reached, durability, result, is, fits, restorable)) =
+    let renew = Called (Renew (renewal_text setup.head (checkpoint_text w) reached) durability result) in
+    ran_as setup w w p (appends ++ renew ∷ []) is
+    (ran_both setup w w w appends (renew ∷ []) (may_run setup w events.Tick failed appends are)
+    (no_run setup w w (renew ∷ []) refl refl refl))
 
 does_ran : (setup : Setup) (command : Command) (w next : World) (p : List TraceEntry) → Performs setup command w p next →
     SendsAreARun setup w p next
 does_ran setup Poll w next p h =
     each_ran setup (SocketTurn setup) (turn_ran setup) (range_with_len 0 (setup.config.slots + 1)) w next p h
-does_ran setup (Tick timing) w next p (happening, appends, is, h, may) =
+does_ran setup (Tick timing) w next p (happening, appends, renewal, is, h, failed, may, renews) =
     let begin = Called (BeginTick timing) in
-    ran_as setup w next p (begin ∷ (happening ++ appends)) is
-    (ran_both setup w w next (begin ∷ []) (happening ++ appends) (no_run setup w w (begin ∷ []) refl refl refl)
-    (ran_both setup w next next happening appends (event_ran setup events.Tick w next happening h)
-    (may_run setup next appends may)))
+    let end = appends ++ renewal in
+    ran_as setup w next p (begin ∷ (happening ++ end)) is
+    (ran_both setup w w next (begin ∷ []) (happening ++ end) (no_run setup w w (begin ∷ []) refl refl refl)
+    (ran_both setup w next next happening end (event_ran setup events.Tick w next happening h)
+    (ran_both setup next next next appends renewal (may_run setup next events.Tick failed appends may)
+    (renewal_run setup next renewal renews))))
 does_ran setup Stats w next p (text, is, same) =
     ran_as setup w next p (Printed text ∷ []) is (no_run setup w next (Printed text ∷ []) refl refl same)
 does_ran setup Quit w next p h = ran_as setup w next p [] h.0 (no_run setup w next [] refl refl h.1)

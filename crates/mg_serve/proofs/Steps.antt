@@ -1,9 +1,8 @@
 -- The steps of a server, in terms of the worlds that its core represents.
-use Rattle.std.proofs.Common.{◌≡◌, ◌≢◌, ℕ, zero, suc, ◌+◌, ◌-◌, ◌<◌, ◌≤◌, inl, inr, Bool, true, false, List, [], ◌∷◌, ◌++◌, length, map, All, Option, Ok, Err, refl, sym, ap, subst, ◌∙◌, append_assoc, arith, codes}
+use Rattle.std.proofs.Common.{◌≡◌, ◌≢◌, ℕ, zero, suc, ◌+◌, ◌-◌, ◌<◌, ◌≤◌, inl, inr, Bool, true, false, List, [], ◌∷◌, ◌++◌, length, map, Option, Ok, Err, refl, sym, ap, subst, ◌∙◌, append_assoc, arith, codes}
 use Rattle.std.proofs.lemmas.List.{append-nil, length_push}
-use Rattle.std.proofs.lemmas.List.Elements.{All-nil}
 use Rattle.std.specs.List.{list_any, range_with_len}
-use Rattle.mg_fence.specs.declared.fence.Fence.{Fence}
+use Rattle.mg_serve.specs.declared.fencing.Fencing.{Fencing}
 use Rattle.mg_clock.specs.declared.timing.Timing.{Timing}
 use Rattle.mg_serve.specs.Setup.{Setup, is_admitted}
 use Rattle.mg_words.specs.declared.peer.Peer.{Peer}
@@ -20,7 +19,7 @@ use Rattle.mg_core.specs.aids.Stands.{StandsFor}
 use Rattle.mg_core.specs.Step.{Sent, Packet, Step}
 use Rattle.mg_words.specs.Leads.{Leads}
 use Rattle.mg_ports.specs.declared.call.Call.{Call}
-use Rattle.mg_ports.specs.declared.call.Call.TheVariants.{Receive, BeginTick, Append}
+use Rattle.mg_ports.specs.declared.call.Call.TheVariants.{Receive, BeginTick}
 use Rattle.mg_ports.specs.Calls.{Logged}
 use Rattle.mg_ports.specs.Journaled.{PortsSeen}
 use Rattle.mg_journal.specs.declared.append_fault.AppendFault.{AppendFault}
@@ -31,30 +30,31 @@ use Rattle.mg_serve.specs.declared.form.Form.{Form}
 use Rattle.mg_serve.specs.declared.form.Form.TheVariants.{Plain, Recording}
 use Rattle.mg_serve.specs.Lines.{line_command, prints}
 use Rattle.mg_serve.specs.Journaled.{is_append}
-use Rattle.mg_serve.specs.Session.{Each, Becomes, ReceivesDatagram, Performs, EndsTurn, HandlesDatagram, HandlesEvent, IsAppended, SocketTurn, event_at, send_of, sends_of}
+use Rattle.mg_serve.proofs.AppendLemmas.{appended_as, failed_as}
+use Rattle.mg_serve.specs.Session.{Each, Becomes, ReceivesDatagram, Performs, EndsTurn, HandlesDatagram, HandlesEvent, SocketTurn, event_at, send_of, sends_of}
 use Rattle.mg_serve.specs.Trace.{TraceEntry, Called, Happened, Noted, Stale, output_of}
 use Rattle.mg_serve.specs.aids.Driving.{Finished, Received}
 use Rattle.mg_serve.specs.aids.Printing.{PrinterView, Prints, Puts}
 use Rattle.mg_serve.specs.aids.Outside.{JournalView, Outside, LeadsByTrace, LogsTrace, outside}
-use Rattle.mg_serve.specs.aids.Journaling.{AppendsBefore, EndsTick, with_tick}
+use Rattle.mg_serve.specs.aids.Journaling.{AppendsBefore, EndsTick, with_tick, RenewsIfDue}
 use Rattle.mg_fence.specs.Fence.{passes}
 use Rattle.mg_fence.specs.Number.{HasNumber}
 use Rattle.mg_serve.specs.Fenced.{IsFenced}
 use Rattle.mg_serve.proofs.FenceLemmas.{fenced_as, may_fenced}
-use Rattle.mg_serve.proofs.JournalLemmas.{appended_prints, may_print, stale_journaled, stale_tried, tick_journaled, tick_tried}
+use Rattle.mg_serve.proofs.JournalLemmas.{may_print, renewal_prints, stale_journaled, stale_tried, tick_journaled, tick_tried}
 use Rattle.mg_serve.proofs.Printing.{output_both, prints_nothing}
 use Rattle.mg_serve.proofs.Taking.{called, tells_announced, tells_appends, tells_both, tells_called, tells_print, tells_print_then, tells_refused, each_more, takes_after, takes_none}
 
 -- If a control datagram was announced, run and printed, and its answer (if any) was sent, the datagram was handled.
 pub control_answered : (setup : Setup) (source : Peer) (bytes : List ℕ) (sent : List Sent) (old new : CoreState)
-    (seen later : PortsSeen) (x y : Option (List ℕ)) (a b : PrinterView) (j k m : JournalView) (fence : Option Fence)
+    (seen later : PortsSeen) (x y : Option (List ℕ)) (a b : PrinterView) (j k m : JournalView) (fencing : Fencing)
     (z : Outside) → AppendsBefore (Happened (events.Control source bytes) ∷ []) (Ok tt) seen later j k →
-    m ≡ record k { fence = fence } → IsFenced j.fence (Happened (events.Control source bytes) ∷ []) fence →
+    m ≡ record k { fencing = fencing } → IsFenced j.fencing (Happened (events.Control source bytes) ∷ []) fencing →
     Leads StandsFor old new (λ w next. Step w (events.Control source bytes) sent next) →
     Prints a b x y (Happened (events.Control source bytes) ∷ []) →
     LogsTrace (outside later y b m) z (sends_of setup sent) →
     LeadsByTrace old new (outside seen x a j) z (Becomes true setup 0 (source, bytes))
-control_answered setup source bytes sent old new seen later x y a b j k m fence z appends is fenced h printed logged w
+control_answered setup source bytes sent old new seen later x y a b j k m fencing z appends is fenced h printed logged w
     stands =
     let event = events.Control source bytes in
     let (next, step, held) = h w stands in (
@@ -66,8 +66,8 @@ control_answered setup source bytes sent old new seen later x y a b j k m fence 
           (sends_of setup sent)
           (subst (λ (v : JournalView).
           LogsTrace (outside seen x a j) (outside later y b v) (appends.trace ++ Happened event ∷ [])) (sym is)
-          (tells_announced event seen later x y a b j k fence appends printed fenced)) logged),
-      inl (appends.trace, Happened event ∷ sends_of setup sent, refl, appends.are, inl (sent, step, refl)),
+          (tells_announced event seen later x y a b j k fencing appends printed fenced)) logged),
+      inl (appends.trace, Happened event ∷ sends_of setup sent, refl, inl (appended_as event appends.trace appends.are, (sent, step, refl))),
       held,
     )
 
@@ -79,19 +79,11 @@ pub control_refused : (setup : Setup) (source : Peer) (bytes : List ℕ) (fault 
     LeadsByTrace core core (outside seen x a j) (outside later y b k) (Becomes true setup 0 (source, bytes))
 control_refused setup source bytes fault core seen later x y a b j k h printed w stands =
     let noted = Noted (codes "no journal for a control datagram") in
-    let (appended, lines, durability, is, all, before) = h.are in
-    let last = Called (Append lines durability (Err fault)) in (
+    let event = events.Control source bytes in (
       h.trace ++ noted ∷ [],
       w,
-      tells_refused (Happened (events.Control source bytes) ∷ []) fault (codes "no journal for a control datagram") seen
-          later x y a b j k h printed,
-      inl (
-        appended,
-        last ∷ noted ∷ [],
-        ap (λ (l : List TraceEntry). l ++ noted ∷ []) is ∙ append_assoc appended (last ∷ []) (noted ∷ []),
-        all,
-        inr (lines, durability, fault, refl, refl, before),
-      ),
+      tells_refused event fault (codes "no journal for a control datagram") seen later x y a b j k h printed,
+      inl (h.trace, noted ∷ [], refl, inr (failed_as event fault h.trace h.are, (refl, refl))),
       stands,
     )
 
@@ -111,7 +103,7 @@ stale_prints Recording source bytes = refl
 -- If a control datagram doesn't pass the fence, it is dropped.
 pub control_stale : (setup : Setup) (source : Peer) (bytes : List ℕ) (number : Option ℕ) (core : CoreState)
     (seen : PortsSeen) (x : Option (List ℕ)) (a : PrinterView) (j : JournalView) → HasNumber bytes number →
-    passes j.fence bytes number ≡ false →
+    passes j.fencing.fence bytes number ≡ false →
     LeadsByTrace core core (outside seen x a j) (outside seen x a j) (Becomes true setup 0 (source, bytes))
 control_stale setup source bytes number core seen x a j has fails w stands =
     let stale = Stale source bytes in (
@@ -127,7 +119,7 @@ control_stale setup source bytes number core seen x a j has fails w stands =
 -- An event may be handled without any appends before it.
 handles : (setup : Setup) (socket : ℕ) (event : Event) (w next : World) (p : List TraceEntry) →
     HandlesEvent setup event w p next → HandlesDatagram setup socket event w p next
-handles setup zero event w next p h = ([], p, refl, All-nil IsAppended, inl h)
+handles setup zero event w next p h = ([], p, refl, inl (refl, h))
 handles setup (suc s) event w next p h = h
 
 -- An RTP datagram is handled without any call on the ports.
@@ -239,35 +231,44 @@ sends_quiet setup [] = refl
 sends_quiet setup (packet ∷ packets) = sends_quiet setup packets
 
 pub tick_sent : (setup : Setup) (timing : Timing) (old new : CoreState) (outbox : List Datagram)
-    (before begun sent after : PortsSeen) (x y : Option (List ℕ)) (a b : PrinterView) (j k : JournalView) →
+    (before begun sent ticked after : PortsSeen) (x y : Option (List ℕ)) (a b : PrinterView) (j m k : JournalView) →
     ((w : World) → StandsFor old w → outbox ≡ packets_of w) →
     ((w : World) → StandsFor old w → StandsFor new (world_after_tick w)) →
     Logged before.calls begun.calls (BeginTick timing ∷ []) → begun.journal ≡ before.journal →
     Prints a b x y (Happened events.Tick ∷ []) →
     Logged begun.calls sent.calls (map (λ (packet : Datagram). send_of setup (Packet packet)) outbox) →
-    sent.journal ≡ begun.journal → EndsTick sent after j k →
+    sent.journal ≡ begun.journal → EndsTick sent ticked j m →
+    ((w : World) → StandsFor new w → RenewsIfDue setup w ticked after m k) →
     LeadsByTrace old new (outside before x a j) (outside after y b k) (Performs setup (Tick timing))
-tick_sent setup timing old new outbox before begun sent after x y a b j k packets moved begins same printed logged
-    kept ended w stands =
+tick_sent setup timing old new outbox before begun sent ticked after x y a b j m k packets moved begins same printed
+    logged kept ended renews w stands =
     let happens = Happened events.Tick ∷ called (packet_sends setup outbox) in
     let i = with_tick j in
     let begin = tells_called x a j before begun (BeginTick timing ∷ []) begins refl same in
     let tick = tells_print_then begun x y a b j i (Happened events.Tick) refl printed refl
     (tick_journaled j.durability j.lacking) (tick_tried j.durability j.untried ended.in_time) refl in
     let sends = tells_called y b i begun sent (packet_sends setup outbox) logged (sends_quiet setup outbox) kept in
-    let appends = tells_appends y b i k sent after ended.appends ended.logs (may_print b.form ended.appends ended.may)
+    let appends = tells_appends y b i m sent ticked ended.appends ended.logs (may_print b.form events.Tick ended.failed ended.appends ended.may)
     ended.durability ended.lacks ended.tries
-    (fenced_as j.fence k.fence ended.appends ended.fence (may_fenced j.fence ended.appends ended.may)) in (
-      Called (BeginTick timing) ∷ (happens ++ ended.appends),
+    (fenced_as j.fencing m.fencing ended.appends ended.fencing (may_fenced j.fencing events.Tick ended.failed ended.appends ended.may)) in
+    let due = renews (world_after_tick w) (moved w stands) in
+    let renewal = tells_appends y b m k ticked after due.renewal due.logs
+    (renewal_prints b.form setup (world_after_tick w) due.renewal due.may) due.durability due.lacks due.tries
+    (fenced_as m.fencing k.fencing due.renewal due.fencing due.says) in
+    let end = ended.appends ++ due.renewal in
+    let ends = tells_both (outside sent y b i) (outside ticked y b m) (outside after y b k) ended.appends due.renewal
+    appends renewal in (
+      Called (BeginTick timing) ∷ (happens ++ end),
       world_after_tick w,
       tells_both (outside before x a j) (outside begun x a j) (outside after y b k) (Called (BeginTick timing) ∷ [])
-          (happens ++ ended.appends) begin
-          (tells_both (outside begun x a j) (outside sent y b i) (outside after y b k) happens ended.appends
+          (happens ++ end) begin
+          (tells_both (outside begun x a j) (outside sent y b i) (outside after y b k) happens end
           (tells_both (outside begun x a j) (outside begun y b i) (outside sent y b i) (Happened events.Tick ∷ [])
-          (called (packet_sends setup outbox)) tick sends) appends),
+          (called (packet_sends setup outbox)) tick sends) ends),
       (
         happens,
         ended.appends,
+        due.renewal,
         refl,
         (
           map Packet (packets_of w),
@@ -276,7 +277,9 @@ tick_sent setup timing old new outbox before begun sent after x y a b j k packet
               (ap (λ (l : List Datagram). called (packet_sends setup l)) (packets w stands) ∙
               sym (same_sends setup (packets_of w))),
         ),
+        ended.failed,
         ended.may,
+        due.may,
       ),
       moved w stands,
     )
@@ -319,17 +322,14 @@ quiet_event : (setup : Setup) (event : Event) (w next : World) (p : List TraceEn
     IsQuiet p
 quiet_event setup event w next p h = quiet_as p (Happened event ∷ sends_of setup h.0) h.2 (quiet_sends setup h.0)
 
-quiet_appended : (p : List TraceEntry) → All IsAppended p → IsQuiet p
-quiet_appended p all = appended_prints Plain p all
-
 quiet_datagram : (setup : Setup) (socket : ℕ) (event : Event) (w next : World) (p : List TraceEntry) →
     HandlesDatagram setup socket event w p next → IsQuiet p
-quiet_datagram setup zero event w next p (appended, others, is, all, inl h) = quiet_as p (appended ++ others) is
-    (quiet_both appended others (quiet_appended appended all) (quiet_event setup event w next others h))
-quiet_datagram setup zero event w next p (appended, others, is, all, inr (lines, durability, fault, last, same, before)) =
+quiet_datagram setup zero event w next p (appends, others, is, inl (are, h)) = quiet_as p (appends ++ others) is
+    (quiet_both appends others (may_print Plain event false appends are) (quiet_event setup event w next others h))
+quiet_datagram setup zero event w next p (appends, others, is, inr (are, (last, same))) =
     let noted = Noted (codes "no journal for a control datagram") in
-    quiet_as p (appended ++ others) is (quiet_both appended others (quiet_appended appended all)
-    (quiet_as others (Called (Append lines durability (Err fault)) ∷ noted ∷ []) last refl))
+    quiet_as p (appends ++ others) is (quiet_both appends others (may_print Plain event true appends are)
+    (quiet_as others (noted ∷ []) last refl))
 quiet_datagram setup (suc s) event w next p h = quiet_event setup event w next p h
 
 quiet_becomes : (admitted : Bool) (setup : Setup) (socket : ℕ) (datagram : Peer × List ℕ) (w next : World)
@@ -364,9 +364,10 @@ pub prints_some : (form : Form) (setup : Setup) (command : Command) (w next : Wo
     Performs setup command w p next → output_of form p ≢ [] → prints form command ≡ true
 prints_some Plain setup Poll w next p h some = absurd
     (some (quiet_each (SocketTurn setup) (quiet_turn setup) (range_with_len 0 (setup.config.slots + 1)) w next p h))
-prints_some Plain setup (Tick timing) w next p (happening, appends, is, h, may) some = absurd
-    (some (quiet_as p (Called (BeginTick timing) ∷ (happening ++ appends)) is
-    (quiet_both happening appends (quiet_event setup events.Tick w next happening h) (may_print Plain appends may))))
+prints_some Plain setup (Tick timing) w next p (happening, appends, renewal, is, h, failed, may, renews) some = absurd
+    (some (quiet_as p (Called (BeginTick timing) ∷ (happening ++ (appends ++ renewal))) is
+    (quiet_both happening (appends ++ renewal) (quiet_event setup events.Tick w next happening h)
+    (quiet_both appends renewal (may_print Plain events.Tick failed appends may) (renewal_prints Plain setup next renewal renews)))))
 prints_some Plain setup Stats w next p h some = refl
 prints_some Plain setup Quit w next p h some = absurd (some (ap (output_of Plain) h.0))
 prints_some Plain setup Unknown w next p h some = refl

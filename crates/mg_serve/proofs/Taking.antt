@@ -1,9 +1,9 @@
 -- Steps in sequence: seen from outside, for each element of a list, and from one core state to the next.
-use Rattle.std.proofs.Common.{◌≡◌, ℕ, ◌+◌, false, List, [], ◌∷◌, ◌++◌, map, Option, Some, None, Ok, Err, refl, sym, ap, subst, ◌∙◌, append_assoc, arith}
+use Rattle.std.proofs.Common.{◌≡◌, ℕ, ◌+◌, true, false, List, [], ◌∷◌, ◌++◌, map, Option, Some, None, Ok, Err, refl, sym, ap, subst, ◌∙◌, append_assoc, arith}
 use Rattle.std.proofs.lemmas.List.{append-nil, map-id}
 use Rattle.std.proofs.lemmas.List.FromFn.{map-range_with_len_more}
 use Rattle.std.specs.List.{list_any, range_with_len}
-use Rattle.mg_fence.specs.declared.fence.Fence.{Fence}
+use Rattle.mg_serve.specs.declared.fencing.Fencing.{Fencing}
 use Rattle.mg_serve.specs.Setup.{Setup}
 use Rattle.mg_core.specs.declared.event.Event.{Event}
 use Rattle.mg_core.specs.declared.state.CoreState.{CoreState}
@@ -19,12 +19,13 @@ use Rattle.mg_serve.specs.declared.form.Form.{Form}
 use Rattle.mg_serve.specs.declared.form.Form.TheVariants.{Plain, Recording}
 use Rattle.mg_serve.specs.Session.{Each, SocketTurn}
 use Rattle.mg_serve.specs.Fenced.{IsFenced}
-use Rattle.mg_serve.specs.Trace.{TraceEntry, Called, Happened, Noted, Stale, calls_of, output_of}
+use Rattle.mg_serve.specs.Trace.{TraceEntry, Called, Happened, Noted, calls_of, output_of}
 use Rattle.mg_serve.specs.aids.Printing.{PrinterView, Prints}
 use Rattle.mg_serve.specs.aids.Outside.{JournalView, Outside, LeadsByTrace, LogsTrace, outside}
 use Rattle.mg_serve.specs.aids.Journaling.{AppendsBefore, LogsCalls}
-use Rattle.mg_serve.proofs.FenceLemmas.{appended_fenced, appends_fenced, calls_fenced, fenced_as, fenced_both, idle_fenced}
-use Rattle.mg_serve.proofs.JournalLemmas.{IsIdle, after_both, after_quiet, appends_print, calls_journaled, calls_tried, idle_journaled, idle_tried, journaled_both, nothing_journaled, nothing_tried, tried_both}
+use Rattle.mg_serve.proofs.FenceLemmas.{calls_fenced, fenced_as, fenced_both, idle_fenced, may_fenced}
+use Rattle.mg_serve.proofs.JournalLemmas.{IsIdle, after_both, after_quiet, calls_journaled, calls_tried, idle_journaled, idle_tried, journaled_both, may_print, nothing_journaled, nothing_tried, tried_both}
+use Rattle.mg_serve.proofs.AppendLemmas.{appended_as, failed_as}
 use Rattle.mg_serve.proofs.Printing.{calls_both, prints_both, prints_nothing}
 
 pub told_both : (a b c : Option (List Call)) (x y : List Call) → Logged a b x → Logged b c y → Logged a c (x ++ y)
@@ -51,7 +52,7 @@ tells_both a b c p q h k = record {
       (subst (λ (d : Option Durability). IsJournaled d b.journal.lacking q c.journal.lacking) h.durability k.lacks);
   tries = tried_both a.journal.durability a.journal.untried b.journal.untried c.journal.untried p q h.tries
       (subst (λ (d : Option Durability). IsTried d b.journal.untried q c.journal.untried) h.durability k.tries);
-  fenced = fenced_both a.journal.fence b.journal.fence c.journal.fence p q h.fenced k.fenced;
+  fenced = fenced_both a.journal.fencing b.journal.fencing c.journal.fencing p q h.fenced k.fenced;
 }
 
 pub tells_none : (a : Outside) → LogsTrace a a []
@@ -69,7 +70,7 @@ tells_none a = record {
 pub tells_print_then : (seen : PortsSeen) (x y : Option (List ℕ)) (a b : PrinterView) (j k : JournalView)
     (did : TraceEntry) → calls_of (did ∷ []) ≡ [] → Prints a b x y (did ∷ []) → k.durability ≡ j.durability →
     IsJournaled j.durability j.lacking (did ∷ []) k.lacking → IsTried j.durability j.untried (did ∷ []) k.untried →
-    IsFenced j.fence (did ∷ []) k.fence → LogsTrace (outside seen x a j) (outside seen y b k) (did ∷ [])
+    IsFenced j.fencing (did ∷ []) k.fencing → LogsTrace (outside seen x a j) (outside seen y b k) (did ∷ [])
 tells_print_then seen x y a b j k did none h same lacks tries fenced = record {
   logged = subst (λ (l : List Call). Logged seen.calls seen.calls l) (sym none) (told_none seen.calls);
   journaled = subst (λ (l : List Call). JournalAfter l seen.journal seen.journal) (sym none) refl;
@@ -86,7 +87,7 @@ pub tells_print : (seen : PortsSeen) (x y : Option (List ℕ)) (a b : PrinterVie
     LogsTrace (outside seen x a j) (outside seen y b j) (did ∷ [])
 tells_print seen x y a b j did none idle h =
     tells_print_then seen x y a b j j did none h refl (idle_journaled j.durability j.lacking did idle)
-    (idle_tried j.durability j.untried did idle) (idle_fenced j.fence did idle)
+    (idle_tried j.durability j.untried did idle) (idle_fenced j.fencing did idle)
 
 -- The trace of these calls.
 abbrev pub called : List Call → List TraceEntry
@@ -112,14 +113,14 @@ tells_called x a j b c calls logged quiet same = record {
   durability = refl;
   lacks = calls_journaled j.durability j.lacking calls quiet;
   tries = calls_tried j.durability j.untried calls quiet;
-  fenced = calls_fenced j.fence calls;
+  fenced = calls_fenced j.fencing calls quiet;
 }
 
 -- Appends are logged, and change the number of ticks that the journal lacks.
 pub tells_appends : (x : Option (List ℕ)) (a : PrinterView) (j k : JournalView) (b c : PortsSeen)
     (trace : List TraceEntry) → LogsCalls b c (calls_of trace) → output_of a.form trace ≡ [] →
     k.durability ≡ j.durability → IsJournaled j.durability j.lacking trace k.lacking →
-    IsTried j.durability j.untried trace k.untried → IsFenced j.fence trace k.fence →
+    IsTried j.durability j.untried trace k.untried → IsFenced j.fencing trace k.fencing →
     LogsTrace (outside b x a j) (outside c x a k) trace
 tells_appends x a j k b c trace logs none same lacks tries fenced = record {
   logged = logs.logged;
@@ -133,35 +134,37 @@ tells_appends x a j k b c trace logs none same lacks tries fenced = record {
 
 -- Appends are logged together with the event that they announce. The event may change the fence.
 pub tells_announced : (event : Event) (seen later : PortsSeen) (x y : Option (List ℕ)) (a b : PrinterView)
-    (j k : JournalView) (fence : Option Fence) → (h : AppendsBefore (Happened event ∷ []) (Ok tt) seen later j k) →
-    Prints a b x y (Happened event ∷ []) → IsFenced j.fence (Happened event ∷ []) fence →
-    LogsTrace (outside seen x a j) (outside later y b (record k { fence = fence })) (h.trace ++ Happened event ∷ [])
-tells_announced event seen later x y a b j k fence h printed fenced =
+    (j k : JournalView) (fencing : Fencing) → (h : AppendsBefore (Happened event ∷ []) (Ok tt) seen later j k) →
+    Prints a b x y (Happened event ∷ []) → IsFenced j.fencing (Happened event ∷ []) fencing →
+    LogsTrace (outside seen x a j) (outside later y b (record k { fencing = fencing })) (h.trace ++ Happened event ∷ [])
+tells_announced event seen later x y a b j k fencing h printed fenced =
     let calls : calls_of (h.trace ++ Happened event ∷ []) ≡ calls_of h.trace =
     calls_both h.trace (Happened event ∷ []) ∙ append-nil (calls_of h.trace) in
+    let appends = appended_as event h.trace h.are in
     record {
       logged = subst (λ (l : List Call). Logged seen.calls later.calls l) (sym calls) h.logs.logged;
       journaled = subst (λ (l : List Call). JournalAfter l seen.journal later.journal) (sym calls) h.logs.journaled;
       prints = prints_both a a b x x y h.trace (Happened event ∷ [])
-          (prints_nothing a x h.trace (appends_print (Happened event ∷ []) (Ok tt) a.form h.trace h.are)) printed;
+          (prints_nothing a x h.trace (may_print a.form event false h.trace appends)) printed;
       durability = h.durability;
       lacks = h.lacks;
       tries = h.tries;
-      fenced = fenced_both j.fence j.fence fence h.trace (Happened event ∷ []) (appended_fenced j.fence h.trace h.are)
-          fenced;
+      fenced = fenced_both j.fencing j.fencing fencing h.trace (Happened event ∷ [])
+          (may_fenced j.fencing event false h.trace appends) fenced;
     }
 
 -- If the last append failed, the appends are logged together with a note.
-pub tells_refused : (followed : List TraceEntry) (fault : AppendFault) (text : List ℕ) (seen later : PortsSeen)
+pub tells_refused : (event : Event) (fault : AppendFault) (text : List ℕ) (seen later : PortsSeen)
     (x y : Option (List ℕ)) (a b : PrinterView) (j k : JournalView) →
-    (h : AppendsBefore followed (Err fault) seen later j k) → Prints a b x y (Noted text ∷ []) →
+    (h : AppendsBefore (Happened event ∷ []) (Err fault) seen later j k) → Prints a b x y (Noted text ∷ []) →
     LogsTrace (outside seen x a j) (outside later y b k) (h.trace ++ Noted text ∷ [])
-tells_refused followed fault text seen later x y a b j k h printed =
+tells_refused event fault text seen later x y a b j k h printed =
+    let appends = failed_as event fault h.trace h.are in
     tells_both (outside seen x a j) (outside later x a k) (outside later y b k) h.trace (Noted text ∷ [])
-    (tells_appends x a j k seen later h.trace h.logs (appends_print followed (Err fault) a.form h.trace h.are) h.durability
+    (tells_appends x a j k seen later h.trace h.logs (may_print a.form event true h.trace appends) h.durability
     (subst (λ (l : List TraceEntry). IsJournaled j.durability j.lacking l k.lacking) (append-nil h.trace) h.lacks)
     (subst (λ (l : List TraceEntry). IsTried j.durability j.untried l k.untried) (append-nil h.trace) h.tries)
-    (fenced_as j.fence k.fence h.trace h.fence (appends_fenced followed (Err fault) j.fence h.trace h.are)))
+    (fenced_as j.fencing k.fencing h.trace h.fencing (may_fenced j.fencing event true h.trace appends)))
     (tells_print later x y a b k (Noted text) refl tt printed)
 
 -- ## The elements of a list

@@ -6,7 +6,7 @@ use Rattle.std.specs.Prelude.{IsSome}
 use Rattle.std.specs.Io.KnownBytes.{Appends}
 use Rattle.mg_journal.specs.declared.durability.Durability.{Durability}
 use Rattle.mg_clock.specs.Ticks.{ClockSeen}
-use Rattle.mg_serve.specs.Setup.{Setup}
+use Rattle.mg_serve.specs.Setup.{Setup, fencing_of}
 use Rattle.mg_core.specs.declared.counts.Counts.{Counts}
 use Rattle.mg_core.specs.declared.fault.RunFault.{RunFault}
 use Rattle.mg_core.specs.declared.fault.RunFault.TheVariants as faults
@@ -101,7 +101,7 @@ serves_nothing setup w title Gave x held fault opens printed gave = record {
   lacks = nothing_journaled setup.journal 0;
   untried = 0;
   tries = λ some. refl;
-  fenced = (setup.fence, refl);
+  fenced = (fencing_of setup, refl);
   journaled = refl;
   printed = printed;
   counts = tt;
@@ -163,7 +163,7 @@ opens_not setup w title Gave x a b held now opened failed gave =
       lacks = nothing_journaled setup.journal 0;
       untried = 0;
       tries = λ some. refl;
-      fenced = (setup.fence, refl);
+      fenced = (fencing_of setup, refl);
       journaled = refl;
       printed = front_put a.has_failed b.has_failed (output_of (form_of title) (opening title ++ [])) held now
           (ap (λ (v : PrinterView). v.has_failed) view) failed
@@ -229,7 +229,7 @@ served_by setup w title Gave result old core a held x z stands journal opened op
       untried = z.journal.untried;
       tries = tried_in setup.journal 0 z.journal.untried p
           (subst (λ (v : JournalView). IsTried v.durability v.untried p z.journal.untried) journal logged.tries);
-      fenced = (z.journal.fence, subst (λ (v : JournalView). IsFenced v.fence p z.journal.fence) journal logged.fenced);
+      fenced = (z.journal.fencing, subst (λ (v : JournalView). IsFenced v.fencing p z.journal.fencing) journal logged.fenced);
       journaled = logged.journaled;
       printed = output (output_of (form_of title) (opening title ++ p)) (all_printed title a held x z p opened logged);
       counts = counted next after;

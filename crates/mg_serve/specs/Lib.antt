@@ -2,6 +2,7 @@ pub mod Setup
 pub mod Trace
 pub mod Lines
 pub mod Fenced
+pub mod Renewal
 pub mod FenceLaws
 pub mod Journaled
 pub mod Session

@@ -15,8 +15,8 @@ use Rattle.mg_lines.specs.Lines.{lines_of}
 use Rattle.mg_lines.specs.Streams.{WritesFront}
 use Rattle.mg_ports.specs.Calls.{Logged}
 use Rattle.mg_ports.specs.Journaled.{PortsSeen, JournalAfter}
-use Rattle.mg_fence.specs.declared.fence.Fence.{Fence}
 use Rattle.mg_serve.specs.Fenced.{IsFenced}
+use Rattle.mg_serve.specs.declared.fencing.Fencing.{Fencing}
 use Rattle.mg_serve.specs.Journaled.{IsJournaled, Tries}
 use Rattle.mg_serve.specs.declared.form.Form.{Form}
 use Rattle.mg_serve.specs.declared.form.Form.TheVariants.{Plain, Recording}
@@ -24,7 +24,7 @@ use Rattle.mg_serve.specs.declared.command.Command.{Command}
 use Rattle.mg_serve.specs.declared.command.Command.TheVariants.{Poll, Tick}
 use Rattle.mg_serve.specs.Lines.{LastPrints, before_quit, line_command}
 use Rattle.mg_serve.specs.Session.{Session}
-use Rattle.mg_serve.specs.Setup.{Setup}
+use Rattle.mg_serve.specs.Setup.{Setup, fencing_of}
 use Rattle.mg_serve.specs.Trace.{TraceEntry, Printed, Noted, calls_of, output_of}
 
 -- The reason why a source has no more commands. If the run succeeded, the source is exhausted. On `Read`, the source
@@ -123,7 +123,7 @@ pub record Served (setup : Setup) (w : World) (title : Option (List ℕ))
   pub lacks : IsJournaled setup.journal 0 trace lacking
   pub untried : ℕ
   pub tries : IsSome setup.journal → Tries 0 trace untried
-  pub fenced : (fence : Option Fence) × IsFenced setup.fence trace fence
+  pub fenced : (fencing : Fencing) × IsFenced (fencing_of setup) trace fencing
   pub journaled : JournalAfter (calls_of trace) old.journal new.journal
   pub printed : IsOutput result (output_of (form_of title) (first ++ trace)) held written
   pub counts : AreCounted result last

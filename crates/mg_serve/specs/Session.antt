@@ -1,6 +1,6 @@
 -- A session: commands and their effects.
-use Rattle.std.specs.Prelude.{◌≡◌, ◌⊎◌, ℕ, zero, suc, ◌+◌, ◌<◌, Bool, true, false}
-use Rattle.std.specs.Prelude.{All, List, [], ◌∷◌, ◌++◌, length, map, codes, Result, Ok, Err, unwrap_or}
+use Rattle.std.specs.Prelude.{◌≡◌, ◌⊎◌, ℕ, zero, suc, ◌+◌, ◌^◌, ◌<◌, Bool, true, false}
+use Rattle.std.specs.Prelude.{List, [], ◌∷◌, ◌++◌, length, map, codes, Result, Ok, Err, unwrap_or}
 use Rattle.std.specs.List.{range_with_len}
 use Rattle.mg_clock.specs.declared.timing.Timing.{Timing}
 use Rattle.mg_words.specs.declared.peer.Peer.{Peer}
@@ -13,12 +13,14 @@ use Rattle.mg_core.specs.Recording.{IsDatagram, event_line}
 use Rattle.mg_core.specs.World.{World}
 use Rattle.mg_core.specs.Step.{Sent, Reply, Packet, Step}
 use Rattle.mg_ports.specs.declared.call.Call.{Call}
-use Rattle.mg_ports.specs.declared.call.Call.TheVariants.{Receive, Send, BeginTick, Append}
+use Rattle.mg_ports.specs.declared.call.Call.TheVariants.{Receive, Send, BeginTick, Append, Renew}
 use Rattle.mg_journal.specs.declared.append_fault.AppendFault.{AppendFault}
 use Rattle.mg_journal.specs.declared.durability.Durability.{Durability}
+use Rattle.mg_checkpoint.specs.Checkpoint.{checkpoint_text}
 use Rattle.mg_ports.specs.declared.receipt.Receipt.TheVariants.{Delivered, Nothing, Failed}
 use Rattle.mg_serve.specs.declared.command.Command.{Command}
 use Rattle.mg_serve.specs.declared.command.Command.TheVariants.{Poll, Tick, Stats, Quit, Unknown}
+use Rattle.mg_serve.specs.Renewal.{IsRestorable, renewal_text}
 use Rattle.mg_serve.specs.Setup.{Setup, is_admitted}
 use Rattle.mg_serve.specs.Trace.{TraceEntry, Called, Happened, Printed, Noted, Stale}
 
@@ -54,36 +56,27 @@ abbrev pub event_at : Setup → ℕ → Peer → List ℕ → Event
 event_at setup zero source bytes = events.Control source bytes
 event_at setup (suc s) source bytes = events.Media (slot_port (limits_of setup.config) s) source bytes
 
--- If there is not enough memory to read a control datagram, the datagram is not an event, and the trace has a note
--- about this.
-abbrev pub LacksMemory : World → List TraceEntry → World → Type 0
-LacksMemory w trace next =
-    (trace ≡ Noted (codes "no memory for a control datagram") ∷ []) × (next ≡ w)
+-- A control datagram is dropped, and the trace has a note that says why.
+abbrev pub IsDropped : (reason : List ℕ) → World → List TraceEntry → World → Type 0
+IsDropped reason w trace next = (trace ≡ Noted reason ∷ []) × (next ≡ w)
 
--- A successful append. `Advances` defines the lines that are appended.
-abbrev pub IsAppended : TraceEntry → Type 0
-IsAppended (Called (Append lines durability (Ok done))) = Unit {0}
-IsAppended entry = ⊥
+-- Appends of ticks, and of the line of an event. Only the last append may have failed. `Advances` defines the order and
+-- the numbers of ticks.
+abbrev pub AppendsFor : Event → (failed : Bool) → List TraceEntry → Type 0
+AppendsFor event failed [] = failed ≡ false
+AppendsFor event failed (Called (Append lines durability (Ok done)) ∷ trace) = AppendsFor event failed trace
+AppendsFor event failed (Called (Append lines durability (Err fault)) ∷ trace) =
+    (failed ≡ true) × (trace ≡ [])
+    × (((ticks : ℕ) × (lines ≡ ticks_line ticks)) ⊎ (lines ≡ event_line event))
+AppendsFor event failed (entry ∷ trace) = ⊥
 
--- The line that is appended before an event: the line for ticks that have passed, or the event's own line.
-abbrev pub ArePreceding : Event → List ℕ → Type 0
-ArePreceding event lines =
-    ((ticks : ℕ) × (lines ≡ ticks_line ticks)) ⊎ (lines ≡ event_line event)
-
--- If an append fails, the control datagram is not an event, and the trace has a note about this.
-abbrev pub LacksJournal : Event → World → List TraceEntry → World → Type 0
-LacksJournal event w trace next =
-    (lines : List ℕ) × (durability : Durability) × (fault : AppendFault)
-    × (trace ≡ Called (Append lines durability (Err fault))
-    ∷ Noted (codes "no journal for a control datagram") ∷ [])
-    × (next ≡ w) × ArePreceding event lines
-
--- The event happens after some appends, unless an append fails. Before an RTP datagram is handled, nothing is appended.
+-- A control datagram is an event after some appends. If an append fails, the datagram is dropped instead. Before an RTP
+-- datagram is handled, nothing is appended.
 abbrev pub HandlesDatagram : Setup → ℕ → Event → World → List TraceEntry → World → Type 0
 HandlesDatagram setup zero event w trace next =
-    (appended : List TraceEntry) × (others : List TraceEntry)
-    × (trace ≡ appended ++ others) × All IsAppended appended
-    × (HandlesEvent setup event w others next ⊎ LacksJournal event w others next)
+    (appends : List TraceEntry) × (others : List TraceEntry) × (trace ≡ appends ++ others)
+    × ((AppendsFor event false appends × HandlesEvent setup event w others next)
+    ⊎ (AppendsFor event true appends × IsDropped (codes "no journal for a control datagram") w others next))
 HandlesDatagram setup (suc s) event w trace next = HandlesEvent setup event w trace next
 
 -- The effect of a datagram. If its sender is admitted, the datagram is an event, unless memory runs out, an append
@@ -93,7 +86,7 @@ abbrev pub Becomes : (admitted : Bool) → Setup → ℕ → Peer × List ℕ �
     → Type 0
 Becomes true setup socket datagram w trace next =
     HandlesDatagram setup socket (event_at setup socket datagram.0 datagram.1) w trace next
-    ⊎ ((socket ≡ 0) × (LacksMemory w trace next
+    ⊎ ((socket ≡ 0) × (IsDropped (codes "no memory for a control datagram") w trace next
     ⊎ ((trace ≡ Stale datagram.0 datagram.1 ∷ []) × (next ≡ w))))
 Becomes false setup socket datagram w trace next = (trace ≡ []) × (next ≡ w)
 
@@ -129,19 +122,24 @@ pub record SocketTurn (setup : Setup) (socket : ℕ) (w : World) (trace : List T
 
 -- ## Commands
 
--- At most one append, which may fail.
-abbrev pub MayAppend : List TraceEntry → Type 0
-MayAppend trace =
+-- At most one renewal, which may fail. Ticks may be appended before it. The text has the checkpoint of this world.
+abbrev pub MayRenew : Setup → World → List TraceEntry → Type 0
+MayRenew setup w trace =
     (trace ≡ [])
-    ⊎ ((lines : List ℕ) × (durability : Durability) × (result : Result (Unit {0}) AppendFault)
-    × (trace ≡ Called (Append lines durability result) ∷ []))
+    ⊎ ((appends : List TraceEntry) × (failed : Bool) × AppendsFor events.Tick failed appends
+    × (reached : ℕ) × (durability : Durability) × (result : Result (Unit {0}) AppendFault)
+    × (trace ≡ appends ++ Called
+    (Renew (renewal_text setup.head (checkpoint_text w) reached) durability result) ∷ [])
+    × (reached < 2 ^ 32) × IsRestorable w)
 
--- A tick begins, its event happens, and then a line for ticks may be appended to the journal.
+-- A tick begins and its event happens. Then ticks may be appended to the journal, and the journal may be renewed with
+-- the world after the tick.
 abbrev pub Ticks : Setup → Timing → World → List TraceEntry → World → Type 0
 Ticks setup timing w trace next =
-    (happening : List TraceEntry) × (appends : List TraceEntry)
-    × (trace ≡ Called (BeginTick timing) ∷ (happening ++ appends))
-    × HandlesEvent setup events.Tick w happening next × MayAppend appends
+    (happening : List TraceEntry) × (appends : List TraceEntry) × (renewal : List TraceEntry)
+    × (trace ≡ Called (BeginTick timing) ∷ (happening ++ (appends ++ renewal)))
+    × HandlesEvent setup events.Tick w happening next
+    × (failed : Bool) × AppendsFor events.Tick failed appends × MayRenew setup next renewal
 
 -- The effects of a command. `poll` gives a turn to the control socket, and then to each media socket in ascending
 -- order. `tick` is one tick. `stats` prints text that is not specified here.

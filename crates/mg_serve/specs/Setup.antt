@@ -11,16 +11,24 @@ use Rattle.mg_engine.specs.declared.config.Config.{Config}
 use Rattle.mg_core.specs.World.{World}
 use Rattle.mg_fence.specs.declared.fence.Fence.{Fence}
 use Rattle.mg_journal.specs.declared.durability.Durability.{Durability}
+use Rattle.mg_serve.specs.declared.fencing.Fencing.{Fencing}
 
 -- The setup of a session: the gateway's configuration, the addresses of its controllers, and whether callers use
--- symmetric RTP. If there is a journal, `journal` is the durability with which messages are appended. If there is a
--- fence, `fence` is its state at the start.
+-- symmetric RTP. If there is a journal, `journal` is the durability with which messages are appended, and `head` is the
+-- text with which a renewed journal begins. If there is a fence, `fence` is its state at the start. `reached` is the
+-- number that messages had reached at the start.
 pub record Setup : Type 0 where
   pub config : Config
   pub controllers : List (List ℕ)
   pub symmetric_rtp : Bool
   pub journal : Option Durability
   pub fence : Option Fence
+  pub head : List ℕ
+  pub reached : ℕ
+
+-- The fence and the number reached at the start.
+abbrev pub fencing_of : Setup → Fencing
+fencing_of setup = record { fence = setup.fence; reached = setup.reached }
 
 -- Whether control messages from an address are accepted: the address is listed, or no address is listed.
 abbrev pub may_command : List (List ℕ) → List ℕ → Bool

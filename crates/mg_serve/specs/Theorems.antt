@@ -44,15 +44,15 @@ recorded title trace = output_of Recording (opening (Some title) ++ trace)
 -- A recording of a session is a script of its events.
 abbrev pub SessionsAreReadBack : Type 0
 SessionsAreReadBack =
-    (setup : Setup) (title : List ℕ) (commands : List Command) (next : World) (trace : List TraceEntry)
-    → IsValidConfig setup.config → Session setup commands (start_of setup.config) trace next
+    (setup : Setup) (title : List ℕ) (commands : List Command) (w next : World) (trace : List TraceEntry)
+    → IsValidConfig setup.config → Session setup commands w trace next
     → script.events_of (lines_of true (recorded title trace)) ≡ Some (events_of_trace trace)
 
 -- Wherever the recording of a session is truncated, its complete lines are a script of its first events.
 abbrev pub CutSessionsAreReadBack : Type 0
 CutSessionsAreReadBack =
-    (setup : Setup) (title : List ℕ) (commands : List Command) (next : World) (trace : List TraceEntry)
-    (front rest : List ℕ) → IsValidConfig setup.config → Session setup commands (start_of setup.config) trace next
+    (setup : Setup) (title : List ℕ) (commands : List Command) (w next : World) (trace : List TraceEntry)
+    (front rest : List ℕ) → IsValidConfig setup.config → Session setup commands w trace next
     → recorded title trace ≡ front ++ rest
     → (first : List Event) × (others : List Event) × (events_of_trace trace ≡ first ++ others)
     × (script.events_of (lines_of false front) ≡ Some first)
@@ -65,7 +65,7 @@ pub record WroteWhatWasSent (setup : Setup) (trace : List TraceEntry) (next last
   pub written : Appends old new (lines_for session.sent)
   pub same : last ≡ next
 
--- A run over a recording repeats the session.
+-- A run over a recording repeats the session of a new gateway.
 abbrev pub ReplaysAreTheSession : Type 0
 ReplaysAreTheSession =
     (setup : Setup) (title : List ℕ) (commands : List Command) (next : World) (trace : List TraceEntry)

@@ -7,4 +7,6 @@ pub struct JournalReport {
     pub failed: u64,
     /// Control datagrams that were dropped because an append failed.
     pub unjournaled: u64,
+    /// Renewals of the journal that failed.
+    pub unrenewed: u64,
 }

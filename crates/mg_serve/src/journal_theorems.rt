@@ -1,14 +1,21 @@
 //! Theorems about every session with a journal. The functions do nothing: their contracts are the theorems.
 
-ghost use Rattle.mg_serve.specs.JournalLaws.{EachPartIsAMoment, NothingAnsweredIsForgotten, CrashesLoseSpeechOnly, LivesFollow, AnyCutIsAMoment, CutsResumeAMoment, PowerLossesForgetNoAnswer, JournalsTellWhoHears};
+ghost use Rattle.mg_serve.specs.JournalLaws.{EachPartIsAMoment, NothingAnsweredIsForgotten, CrashesLoseSpeechOnly, RenewalsFollow, AnyCutIsAMoment, CutsResumeAMoment, PowerLossesForgetNoAnswer, JournalsTellWhoHears};
 
 /// Every prefix of a session's trace ends at a moment, so the other theorems hold at any time.
+///
+/// A moment counts from the last successful renewal of the journal before it. There, the journal tells no events, but
+/// begins with the checkpoint of the session's world. A gateway that is restored from this checkpoint begins in the same
+/// world, except for what was received (`mg_checkpoint::theorems`). So the other theorems hold for it.
 ///
 /// The contracts of [`serve`](crate::serve) and [`serve_by_clock`](crate::serve_by_clock) guarantee the premises about
 /// the session. The other premises are that there is a journal, and what it contained at the start.
 pub fn each_part_is_a_moment()
     ensures theorem { EachPartIsAMoment }
-{}
+{
+    mg_core::theorems::recordings_are_read();
+    crate::theorems::sessions_are_runs();
+}
 
 /// Nothing answered is forgotten.
 ///
@@ -25,11 +32,13 @@ pub fn nothing_answered_is_forgotten()
 ///
 /// Running the journal's events leads to a world that agrees with the world before the crash, except for received RTP
 /// and the last ticks, which the journal lacked. A message that had been appended, but neither handled nor answered, is
-/// run too. The same holds each time a gateway resumes from its journal.
+/// run too. The same holds each time a gateway resumes from its journal, and after a renewal of the journal.
 pub fn crashes_lose_speech_only()
     ensures crash { CrashesLoseSpeechOnly }
-    ensures lives { LivesFollow }
+    ensures renewals { RenewalsFollow }
 {
+    mg_core::theorems::bases_stay_bases();
+    mg_checkpoint::theorems::checkpoints_lose_speech_only();
     mg_core::theorems::recordings_are_read();
     mg_core::theorems::outcomes_are_unique();
     mg_core::theorems::rtp_changes_speech_only();

@@ -1,19 +1,22 @@
-ghost use Rattle.std.specs.Prelude.{◌≡◌, ◌^◌, ◌<◌, ◌≤◌, ◌+◌, ◌∷◌, [], IfOk, IsSome, OnOk};
+ghost use Rattle.std.specs.Prelude.{◌≡◌, ◌^◌, ◌<◌, ◌≤◌, ◌+◌, ◌∷◌, [], IfOk, IsSome, OnOk, Some};
 ghost use Rattle.mg_core.specs.Counted.{ticks_line};
-ghost use Rattle.std.specs.Option.{option_map};
+ghost use Rattle.mg_core.specs.World.{World};
+ghost use Rattle.mg_core.specs.aids.Stands.{StandsFor};
 ghost use Rattle.mg_core.specs.declared.event.Event.TheVariants as events;
 ghost use Rattle.mg_core.specs.Recording.{IsDatagram};
-ghost use Rattle.mg_fence.specs.Fence.{passes, raised_by};
 ghost use Rattle.mg_journal.specs.Text.{EndsInLineFeed};
 ghost use Rattle.mg_ports.specs.declared.call.Call.TheVariants.{Append};
 ghost use Rattle.mg_ports.specs.Calls.{Logged};
 ghost use Rattle.mg_ports.specs.Journaled.{AppendsDated, ports_seen};
+ghost use Rattle.mg_serve.specs.Fenced.{after_message};
 ghost use Rattle.mg_serve.specs.Trace.{Happened};
-ghost use Rattle.mg_serve.specs.aids.Journaling.{AppendsBefore, AppendsTicks, EndsTick, with_tick};
+ghost use Rattle.mg_serve.specs.aids.Journaling.{AppendsBefore, AppendsTicks, EndsTick, Renewed, RenewsIfDue, with_tick};
 
+use crate::fencing::Fencing;
 use crate::journal_report::JournalReport;
-use mg_core::{EventLine, Peer, ticks_line};
-use mg_fence::Fence;
+use crate::renewal::renewal_text;
+use crate::setup::Setup;
+use mg_core::{Core, EventLine, Peer, is_oversized, ticks_line};
 use mg_journal::{AppendFault, Durability};
 use mg_ports::Ports;
 use std::alloc::{AllocError, Global};
@@ -26,16 +29,19 @@ const TOGETHER: u64 = 10;
 /// The state of a session's journal, such as the number of ticks that it lacks, and the session's fence. A session may
 /// have no journal, and no fence.
 ///
-/// A message is appended before it is handled. Ticks are appended five times a second, and before each message.
+/// A message is appended before it is handled. Ticks are appended five times a second, and before each message. The
+/// journal is renewed after ticks, if the ports say that this is due.
 #[derive(Drop)]
 pub struct Journaling {
     durability: Option<Durability>,
     lacking: u64,
     /// The number of ticks since an append was last tried.
     untried: u64,
-    fence: Option<Fence>,
+    fencing: Fencing,
     line: EventLine,
     failed: u64,
+    /// Renewals that failed.
+    unrenewed: u64,
 }
 
 impl Model for Journaling {
@@ -45,20 +51,9 @@ impl Model for Journaling {
     ghost Value = { JournalView };
 
     ghost view = { λ j.
-        record { durability = j.durability; lacking = j.lacking; untried = j.untried; fence = j.fence } };
+        record { durability = j.durability; lacking = j.lacking; untried = j.untried; fencing = j.fencing } };
 
     ghost invariant = { λ j. (j.untried ≤ j.lacking) × (j.untried < 10) };
-}
-
-/// Returns the fence after a message with this number, or without a number, was run. Returns `None` if there is no
-/// fence.
-fn raised_by(number: Option<u32>, fence: Option<Fence>) -> Option<Fence>
-    ensures value { result ≡ option_map (raised_by number) fence }
-{
-    match fence {
-        Some(fence) => Some(fence.raised_by(number)),
-        None => None,
-    }
 }
 
 /// Appends lines, and counts the append if it fails.
@@ -100,44 +95,34 @@ impl Journaling {
     pub fn new(
         alloc: Global,
         durability: Option<Durability>,
-        fence: Option<Fence>,
+        fencing: Fencing,
     ) -> Result<Self, AllocError>
         ensures value { IfOk result (λ j.
-            j ≡ record { durability = durability; lacking = 0; untried = 0; fence = fence }) }
+            j ≡ record { durability = durability; lacking = 0; untried = 0; fencing = fencing }) }
     {
         Ok(Journaling {
             durability,
             lacking: 0,
             untried: 0,
-            fence,
+            fencing,
             line: EventLine::new(alloc)?,
             failed: 0,
+            unrenewed: 0,
         })
     }
 
-    /// Returns the fence.
-    pub fn fence(&self) -> Option<Fence>
-        ensures value { result ≡ self.now.fence }
+    /// Returns the fence and the number that messages have reached.
+    pub fn fencing(&self) -> Fencing
+        ensures value { result ≡ self.now.fencing }
     {
-        self.fence
+        self.fencing
     }
 
-    /// Returns whether a message with this number, or without a number, passes the fence. Without a fence, each message
-    /// passes.
-    pub fn passes(&self, bytes: &[u8], number: Option<u32>) -> bool
-        ensures value { result ≡ passes self.now.fence bytes.now number }
-    {
-        match &self.fence {
-            Some(fence) => fence.passes(bytes, number),
-            None => true,
-        }
-    }
-
-    /// Raises the fence after a message was run.
+    /// Raises the fence and the number reached after a message was run.
     pub fn pass(&mut self, number: Option<u32>)
-        ensures value { self.new ≡ record self.old { fence = option_map (raised_by number) self.old.fence } }
+        ensures value { self.new ≡ record self.old { fencing = after_message number self.old.fencing } }
     {
-        self.fence = raised_by(number, self.fence);
+        self.fencing = self.fencing.after_message(number);
     }
 
     /// Returns the report about the journal for a monitor, given the number of messages that were dropped because an
@@ -149,6 +134,7 @@ impl Journaling {
             lacking: self.lacking,
             failed: self.failed,
             unjournaled,
+            unrenewed: self.unrenewed,
         }
     }
 
@@ -157,6 +143,7 @@ impl Journaling {
         requires journal { IsSome self.old.durability }
         requires some { 0 < self.old.lacking }
         ensures few { self.new.lacking ≤ self.old.lacking }
+        ensures tried { self.new.untried ≡ 0 }
         ensures none { OnOk result (self.new.lacking ≡ 0) }
         ensures value { AppendsTicks result (ports_seen (P.calls ports.old) (P.journal ports.old))
             (ports_seen (P.calls ports.new) (P.journal ports.new)) self.old self.new }
@@ -173,6 +160,7 @@ impl Journaling {
     fn append_lacking<P: Ports>(&mut self, ports: &mut P) -> Result<(), AppendFault>
         requires journal { IsSome self.old.durability }
         ensures few { self.new.lacking ≤ self.old.lacking }
+        ensures tried { self.new.untried ≡ 0 }
         ensures none { OnOk result (self.new.lacking ≡ 0) }
         ensures value { AppendsBefore [] result (ports_seen (P.calls ports.old) (P.journal ports.old))
             (ports_seen (P.calls ports.new) (P.journal ports.new)) self.old self.new }
@@ -184,7 +172,8 @@ impl Journaling {
     }
 
     /// Appends all ticks that the journal lacks, and then a message that is about to be handled. Fails if an append
-    /// fails. Does nothing without a journal.
+    /// fails. Does nothing without a journal, or if the message is oversized: nothing follows from it but an error in
+    /// the answer.
     pub fn announce<P: Ports>(
         &mut self,
         ports: &mut P,
@@ -200,6 +189,9 @@ impl Journaling {
         let Some(durability) = self.durability else {
             return Ok(());
         };
+        if is_oversized(bytes) {
+            return Ok(());
+        }
         if let Err(fault) = self.append_lacking(ports) {
             return Err(fault);
         }
@@ -225,5 +217,51 @@ impl Journaling {
             return;
         }
         let _ = self.append_ticks(ports);
+    }
+
+    /// Renews the journal with a text. If that works, the journal lacks nothing. Otherwise it is unchanged, and the
+    /// failure is counted.
+    fn renew<P: Ports>(&mut self, ports: &mut P, text: &mut Vec<u8>, durability: Durability)
+        requires journal { self.old.durability ≡ Some durability }
+        requires tried { self.old.untried ≡ 0 }
+        requires line_feed { EndsInLineFeed text.old.items }
+        ensures few { self.new.lacking ≤ self.old.lacking }
+        ensures value { Renewed text.old.items (ports_seen (P.calls ports.old) (P.journal ports.old))
+            (ports_seen (P.calls ports.new) (P.journal ports.new)) self.old self.new }
+    {
+        match ports.renew(text, durability) {
+            Ok(()) => self.lacking = 0,
+            Err(_) => self.unrenewed = self.unrenewed.saturating_add(1),
+        }
+    }
+
+    /// Renews the journal with the gateway's checkpoint if the ports say that this is due. Appends the ticks that the
+    /// journal lacks first, so that it ends where the renewed one begins. If that fails, still renews the journal, since a
+    /// renewed journal works even if the old one is broken. Counts a failed renewal, after which the journal goes on
+    /// unchanged. Does nothing without a journal.
+    pub fn renew_if_due<P: Ports>(
+        &mut self,
+        alloc: Global,
+        setup: &Setup<'_>,
+        ports: &mut P,
+        core: &Core,
+    )
+        ensures few { self.new.lacking ≤ self.old.lacking }
+        ensures value { (w : World) → StandsFor core.now.state w → RenewsIfDue setup.now w
+            (ports_seen (P.calls ports.old) (P.journal ports.old))
+            (ports_seen (P.calls ports.new) (P.journal ports.new)) self.old self.new }
+    {
+        let Some(durability) = self.durability else {
+            return;
+        };
+        if !ports.is_renewal_due() {
+            return;
+        }
+        let Some(mut text) = renewal_text(alloc, setup, core, self.fencing.reached) else {
+            self.unrenewed = self.unrenewed.saturating_add(1);
+            return;
+        };
+        let _ = self.append_lacking(ports);
+        self.renew(ports, &mut text, durability);
     }
 }

@@ -13,11 +13,13 @@
 //! form a session (`specs/Session.antt`). So it reads the ports in order, and sends each answer and each packet once.
 //! It keeps a datagram from the gateway's core only for a reason that the definition names: the datagram came from a
 //! stranger or didn't pass the fence, memory ran out, or the journal failed. [`theorems`] goes further: a session sends
-//! what a run of its events sends, and reading its recording back yields the same events.
+//! what a run of its events sends, and reading its recording back yields the same events. [`journal_theorems`] states
+//! what a journal preserves, also after it was renewed.
 #![tactic(auto)]
 
 mod clock_driver;
 mod command;
+mod fencing;
 mod form;
 mod incoming;
 mod journal_report;
@@ -29,6 +31,7 @@ mod monitor;
 mod output;
 mod peripherals;
 mod printer;
+mod renewal;
 mod server;
 mod serving;
 mod setup;
@@ -44,6 +47,9 @@ pub use crate::command::Command;
 // A theorem can name the output's form in a contract only if the type is exported.
 #[doc(hidden)]
 pub use crate::form::Form;
+// A theorem can name a fence's state in a contract only if the type is exported.
+#[doc(hidden)]
+pub use crate::fencing::Fencing;
 pub use crate::journal_report::JournalReport;
 pub use crate::monitor::Monitor;
 pub use crate::peripherals::Peripherals;

@@ -146,7 +146,7 @@ impl<'a, M: Monitor> Server<'a, M> {
             alloc,
             core,
             printer: Printer::new(alloc, form)?,
-            journal: Journaling::new(alloc, setup.journal(), setup.fence())?,
+            journal: Journaling::new(alloc, setup.journal(), setup.fencing())?,
             monitor,
             lines: 0,
             sent: 0,
@@ -203,7 +203,7 @@ impl<'a, M: Monitor> Server<'a, M> {
             return;
         };
         let number = number_in(bytes, &parsed);
-        if !self.journal.passes(bytes, number) {
+        if !self.journal.fencing().passes(bytes, number) {
             self.stale = self.stale.saturating_add(1);
             return;
         }
@@ -383,7 +383,8 @@ impl<'a, M: Monitor> Server<'a, M> {
         }
     }
 
-    /// Advances by 20 ms, and sends the packets. If the tick is late, ports on a network don't send them.
+    /// Advances by 20 ms, and sends the packets. If the tick is late, ports on a network don't send them. Then appends
+    /// ticks to the journal and renews it, if that is due.
     fn tick<P: Ports, W: Write>(
         &mut self,
         setup: &Setup<'_>,
@@ -407,6 +408,8 @@ impl<'a, M: Monitor> Server<'a, M> {
         self.printer.tick(writer);
         send_packets(ports, setup, self.core.outbox(), &mut self.sent);
         self.journal.end_tick(ports);
+        self.journal
+            .renew_if_due(self.alloc, setup, ports, &self.core);
         self.report(setup, ports, timing);
     }
 
@@ -423,7 +426,7 @@ impl<'a, M: Monitor> Server<'a, M> {
             counts,
             unread: self.unread,
             stale: self.stale,
-            fence: self.journal.fence(),
+            fence: self.journal.fencing().fence,
             failures: ports.failure_causes(),
             journal: self.journal.report(self.unjournaled),
             timing,
@@ -469,7 +472,11 @@ impl<'a, M: Monitor> Server<'a, M> {
             Command::Poll => self.poll(setup, ports, buffer, writer),
             Command::Tick(timing) => self.tick(setup, ports, timing, writer),
             Command::Stats => {
-                let text = counts_text(&self.counts(ports), self.journal.fence(), self.stale);
+                let text = counts_text(
+                    &self.counts(ports),
+                    self.journal.fencing().fence,
+                    self.stale,
+                );
                 self.printer.print(text.as_slice(), writer);
             }
             Command::Quit => {}

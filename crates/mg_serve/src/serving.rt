@@ -46,6 +46,9 @@ use std::io::Read;
 /// second. A tick's packets are sent whether or not appends work. The journal's text contains the session's events,
 /// except for RTP datagrams and for ticks that it still lacks.
 ///
+/// If the ports say after a tick that a renewal is due, the journal is replaced by one that begins with the gateway's
+/// checkpoint (`mg_checkpoint`) and goes on from there. If that fails, the old journal goes on.
+///
 /// Reports datagrams and ticks to the monitor.
 ///
 /// On return, with or without an error, the complete lines that were read and their effects form a session of the

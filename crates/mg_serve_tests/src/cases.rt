@@ -18,8 +18,8 @@ pub struct Case<'a> {
     pub call_log: &'a [u8],
     pub printed: &'a [u8],
     pub reports: &'a [u8],
-    /// The start of the datagram that the last call sent.
-    pub last_head: &'a [u8],
+    /// The last datagram that was sent.
+    pub last_sent: &'a [u8],
 }
 
 /// A session without lines.
@@ -30,7 +30,7 @@ pub const CASE: Case<'static> = Case {
     call_log: b"",
     printed: b"ready\n",
     reports: b"",
-    last_head: b"..",
+    last_sent: b"..",
 };
 
 /// Returns `wanted` if the text is as expected, and the text otherwise. If `wanted` ends with `..`, only the start of
@@ -67,7 +67,7 @@ fn compare(rt: &impl Abort, case: &Case<'_>, outcome: &Outcome) {
         compared(outcome.call_log.as_bytes(), case.call_log),
         compared(outcome.printed.as_slice(), case.printed),
         compared(outcome.seen.reports.as_slice(), case.reports),
-        compared(outcome.last_head.as_slice(), case.last_head),
+        compared(outcome.last_sent.as_slice(), case.last_sent),
     ];
     assert_equal(
         rt,
@@ -75,7 +75,7 @@ fn compare(rt: &impl Abort, case: &Case<'_>, outcome: &Outcome) {
         (
             case.name,
             case.ended,
-            [case.call_log, case.printed, case.reports, case.last_head],
+            [case.call_log, case.printed, case.reports, case.last_sent],
         ),
     );
 }

@@ -10,6 +10,9 @@ use std::alloc::{AllocError, Global};
 use std::process::Abort;
 use std::test::Fail;
 
+/// A datagram that is longer than any message.
+pub const OVERSIZED: &[u8] = &[b' '; 8_193];
+
 /// A marker for a recording whose events don't begin with those of the journal's text.
 const OTHERS: &[u8] = b"other events";
 
@@ -59,6 +62,29 @@ const CASES: &[Case<'static>] = &[
             lacking: 1,
             failed: 0,
             unjournaled: 0,
+            unrenewed: 0,
+        },
+    },
+    Case {
+        name: "an oversized datagram is answered but not appended",
+        session: Session {
+            journal: Some(Durability::Written),
+            waiting: &[(0, CALLER, OVERSIZED), (0, CALLER, HEARTBEAT)],
+            lines: &[(1, b"tick\npoll\ntick\n")],
+            ..RECORDED
+        },
+        call_log: b"c0a0c0w1w1a0n0n1n2",
+        comments: b"# a title\n# ready\n",
+        start: b"ticks 1\ncontrol 127.0.0.1:40000 4d4547",
+        lines: 2,
+        synced: 0,
+        // The recording has the oversized datagram.
+        rest: OTHERS,
+        report: JournalReport {
+            lacking: 1,
+            failed: 0,
+            unjournaled: 0,
+            unrenewed: 0,
         },
     },
     Case {
@@ -79,6 +105,7 @@ const CASES: &[Case<'static>] = &[
             lacking: 0,
             failed: 0,
             unjournaled: 0,
+            unrenewed: 0,
         },
     },
     Case {
@@ -106,6 +133,7 @@ const CASES: &[Case<'static>] = &[
             lacking: 2,
             failed: 1,
             unjournaled: 1,
+            unrenewed: 0,
         },
     },
     Case {
@@ -134,6 +162,7 @@ const CASES: &[Case<'static>] = &[
             lacking: 2,
             failed: 2,
             unjournaled: 2,
+            unrenewed: 0,
         },
     },
     Case {
@@ -153,6 +182,7 @@ const CASES: &[Case<'static>] = &[
             lacking: 1,
             failed: 0,
             unjournaled: 0,
+            unrenewed: 0,
         },
     },
     Case {
@@ -173,6 +203,7 @@ const CASES: &[Case<'static>] = &[
             lacking: 1,
             failed: 2,
             unjournaled: 0,
+            unrenewed: 0,
         },
     },
     Case {
@@ -195,6 +226,7 @@ const CASES: &[Case<'static>] = &[
             lacking: 1002,
             failed: 993,
             unjournaled: 0,
+            unrenewed: 0,
         },
     },
     Case {
@@ -215,6 +247,7 @@ const CASES: &[Case<'static>] = &[
             lacking: 0,
             failed: 0,
             unjournaled: 0,
+            unrenewed: 0,
         },
     },
 ];
@@ -231,7 +264,7 @@ fn lines_of(alloc: Global, text: &[u8], comments: bool) -> Result<Vec<u8>, Alloc
     Ok(kept)
 }
 
-/// Returns the text without its empty lines. A line such as `ticks 12` is replaced by twelve lines `tick`.
+/// Returns the text without its empty lines. A line such as `ticks 12` is replaced by twelve `tick` lines.
 fn uncounted(alloc: Global, text: &[u8]) -> Result<Vec<u8>, AllocError> {
     let mut lines = Vec::new(alloc);
     for line in text.split(|b| *b == b'\n') {

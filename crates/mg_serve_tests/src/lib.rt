@@ -21,6 +21,8 @@ mod metrics;
 #[cfg(test)]
 mod recorded;
 #[cfg(test)]
+mod renewals;
+#[cfg(test)]
 mod serve;
 #[cfg(test)]
 mod sessions;

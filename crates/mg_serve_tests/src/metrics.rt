@@ -86,6 +86,7 @@ const CASES: &[Case<'static>] = &[
             b"lobbysorrel_strangers_total{gateway=\"127.0.0.1:2944\",socket=\"media\"} 1",
             b"lobbysorrel_journal_lacking_ticks{gateway=\"127.0.0.1:2944\"} 0",
             b"lobbysorrel_journal_appends_failed_total{gateway=\"127.0.0.1:2944\"} 0",
+            b"lobbysorrel_journal_renewals_failed_total{gateway=\"127.0.0.1:2944\"} 0",
             b"lobbysorrel_control_messages_unjournaled_total{gateway=\"127.0.0.1:2944\"} 0",
             b"lobbysorrel_frames_concealed_total{gateway=\"127.0.0.1:2944\"} 1",
             b"lobbysorrel_port_termination{gateway=\"127.0.0.1:2944\",port=\"30000\"} 1",

@@ -2,6 +2,7 @@
 
 use crate::cases::{CASE, Case, play_all};
 use crate::equality::assert_equal;
+use crate::journaled::OVERSIZED;
 use crate::sessions::{ADD, CALLER, HEARTBEAT, Outcome, SESSION, Session, count, play};
 use mg_ports::Peer;
 use mg_serve::RunFault;
@@ -72,7 +73,7 @@ const CASES: &[Case<'static>] = &[
         ended: Ok([5, 1, 0, 2, 2]),
         call_log: b"c0a0n0n1n2p1p1",
         printed: b"ready\ncontrol=1 media=0 ticks=2 sent=2 failed=1 dropped=0,0,0,0,0,0 concealed=0\n",
-        last_head: b"\x80\0\0\x01\0\0\0\xa0\0\0\0\x01",
+        last_sent: b"\x80\0\0\x01\0\0\0\xa0\0\0\0\x01..",
         ..CASE
     },
     Case {
@@ -183,6 +184,10 @@ const CASES: &[Case<'static>] = &[
         reports: b"totals control=1 media=3 ticks=50 sent=51 failed=0 strangers=0 ..",
         ..CASE
     },
+];
+
+/// The cases of reports, and of how sessions end.
+const REPORTS: &[Case<'static>] = &[
     Case {
         name: "no report before a second has passed",
         session: Session {
@@ -331,6 +336,27 @@ const EACH_CALL: &[&[u64]] = &[
     &[14],
 ];
 
+/// The case of a message that is too long. A list of cases with this one takes too long to prove.
+const TOO_LONG: Case<'static> = Case {
+    name: "an oversized datagram is answered with error 501",
+    session: Session {
+        waiting: &[(0, CALLER, OVERSIZED)],
+        lines: &[(1, b"poll\nstats\n")],
+        ..SESSION
+    },
+    ended: Ok([2, 1, 0, 0, 1]),
+    call_log: b"c0a0n0n1n2",
+    printed: b"ready\ncontrol=1 media=0 ticks=0 sent=1 failed=0 dropped=0,0,0,0,0,0 concealed=0\n",
+    last_sent: b"MEGACO/1 [127.0.0.1]:2944\nError=501{..",
+    ..CASE
+};
+
+#[test]
+fn refuses_oversized(rt: HostRuntime) -> Result<(), Fail> {
+    play_all(&rt, rt.alloc(), &[TOO_LONG])?;
+    Ok(())
+}
+
 #[test]
 fn reads_lines(rt: HostRuntime) -> Result<(), Fail> {
     for (input, lines, ticks, printed) in INPUTS {
@@ -380,6 +406,17 @@ fn first_uncounted(alloc: Global) -> io::Result<Option<&'static [u64]>> {
 #[test]
 fn serves_sessions(rt: HostRuntime) -> Result<(), Fail> {
     play_all(&rt, rt.alloc(), CASES)?;
+    Ok(())
+}
+
+#[test]
+fn reports_and_ends(rt: HostRuntime) -> Result<(), Fail> {
+    play_all(&rt, rt.alloc(), REPORTS)?;
+    Ok(())
+}
+
+#[test]
+fn counts_failed_calls(rt: HostRuntime) -> Result<(), Fail> {
     assert_equal(&rt, first_uncounted(rt.alloc())?, None);
     Ok(())
 }

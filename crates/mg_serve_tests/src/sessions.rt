@@ -53,6 +53,11 @@ pub struct Session<'a> {
     pub failing: &'a [u64],
     /// The calls on the journal's file that fail: their kind, the number of the first call, and the number of calls.
     pub faults: &'a [(FileCall, u64, u64)],
+    /// The ticks after which a renewal of the journal is due, counted from 1.
+    pub renewals: &'a [u64],
+    /// The text with which a renewed journal begins, and the number that messages had reached at the start.
+    pub head: &'a [u8],
+    pub reached: u32,
     /// The parts of the input, each with the number of its repetitions.
     pub lines: &'a [(usize, &'a [u8])],
     /// Whether the session is driven by a clock that is late, and not by lines.
@@ -76,6 +81,9 @@ pub const SESSION: Session<'static> = Session {
     packets: &[],
     failing: &[],
     faults: &[],
+    renewals: &[],
+    head: b"",
+    reached: 0,
     lines: &[],
     by_clock: false,
     reads: usize::MAX,
@@ -100,8 +108,8 @@ pub struct Outcome {
     pub printed: Vec<u8>,
     pub seen: Seen,
     pub call_log: String,
-    /// The start of the datagram that the last call sent, if the last call is a send.
-    pub last_head: Vec<u8>,
+    /// The last datagram that was sent.
+    pub last_sent: Vec<u8>,
     /// The text in the journal's file, and the number of its bytes that are synced.
     pub text: Vec<u8>,
     pub synced: usize,
@@ -116,7 +124,7 @@ pub fn config() -> Config {
 }
 
 /// Creates a gateway with this configuration, which is valid.
-fn core(alloc: Global, config: Config) -> Result<Core, AllocError>
+pub fn core(alloc: Global, config: Config) -> Result<Core, AllocError>
     ensures sound { OnOk result (IsValidConfig config) }
 {
     match Core::new(alloc, config) {
@@ -183,7 +191,12 @@ fn ports_for(alloc: Global, session: &Session<'_>) -> io::Result<FakePorts> {
     let file = MemoryFile::new(Vec::new(alloc), faults_for(alloc, session)?);
     let journal = Opening::new(file)?.accept()?;
     let arrivals = arrivals_for(alloc, session)?;
-    Ok(FakePorts::new(alloc, arrivals, session.failing.to_vec(alloc)?).with_journal(journal))
+    let ports = FakePorts::new(alloc, arrivals, session.failing.to_vec(alloc)?);
+    Ok(
+        ports
+            .with_journal(journal)
+            .with_renewals(session.renewals.to_vec(alloc)?),
+    )
 }
 
 /// Returns the number of occurrences of a byte in the text.
@@ -194,7 +207,8 @@ pub fn count(text: &[u8], byte: u8) -> usize {
 /// For a receive or a send, returns its socket and a letter: `c` for a received datagram, `n` for none, `f` for a
 /// failed receive, `a` for an answer, and `p` for a packet. For an append to the journal, returns the number of lines
 /// and a letter: `w` if they were written, `s` if they were synced, `r` if they were refused, and `b` if the journal
-/// broke. For a late tick, returns 0 and `l`. For a tick that is on time, returns `None`.
+/// broke. For a renewal, returns the number of lines and `e`, or `u` if it failed. For a late tick, returns 0 and `l`. For a tick
+/// that is on time, returns `None`.
 fn letter(call: &Call) -> Option<(char, usize)> {
     match call {
         Call::Receive(socket, Receipt::Delivered(_, _)) => Some(('c', *socket)),
@@ -213,6 +227,8 @@ fn letter(call: &Call) -> Option<(char, usize)> {
             };
             Some((letter, count(lines.as_slice(), b'\n')))
         }
+        Call::Renew(text, _, Ok(())) => Some(('e', count(text.as_slice(), b'\n'))),
+        Call::Renew(text, _, Err(_)) => Some(('u', count(text.as_slice(), b'\n'))),
     }
 }
 
@@ -228,13 +244,14 @@ fn call_log(alloc: Global, ports: &FakePorts) -> Result<String, AllocError> {
     Ok(text)
 }
 
-/// Returns the first 12 bytes of the datagram that the last call sent. Returns nothing if the last call is not a send,
-/// or if the datagram is shorter.
-fn last_head(ports: &FakePorts) -> &[u8] {
-    match ports.calls().unwrap_or(&[]).last() {
-        Some(Call::Send(_, _, payload)) => payload.as_slice().get(..12).unwrap_or(&[]),
-        _ => &[],
+/// Returns the last datagram that was sent, or nothing if none was sent.
+fn last_sent(ports: &FakePorts) -> &[u8] {
+    for call in ports.calls().unwrap_or(&[]).iter().rev() {
+        if let Call::Send(_, _, payload) = call {
+            return payload.as_slice();
+        }
     }
+    &[]
 }
 
 /// Runs a new gateway on these ports.
@@ -253,7 +270,8 @@ fn serve_on<M: Monitor>(
         session.symmetric_rtp,
         session.journal,
         session.fence,
-    );
+    )
+    .renewing(session.head, session.reached);
     let start = Start {
         alloc,
         setup: &setup,
@@ -315,6 +333,7 @@ pub fn play(alloc: Global, session: &Session<'_>) -> io::Result<Outcome> {
             lacking: 0,
             failed: 0,
             unjournaled: 0,
+            unrenewed: 0,
         },
     };
     let result = watch(alloc, session, &mut ports, &mut output, &mut seen)?;
@@ -324,7 +343,7 @@ pub fn play(alloc: Global, session: &Session<'_>) -> io::Result<Outcome> {
         printed: output.written,
         seen,
         call_log: call_log(alloc, &ports)?,
-        last_head: last_head(&ports).to_vec(alloc)?,
+        last_sent: last_sent(&ports).to_vec(alloc)?,
         text,
         synced,
     })

@@ -6,11 +6,11 @@ use Rattle.mg_core.specs.aids.Stands.{StandsFor}
 use Rattle.mg_journal.specs.declared.durability.Durability.{Durability}
 use Rattle.mg_ports.specs.Calls.{Logged}
 use Rattle.mg_ports.specs.Journaled.{PortsSeen, JournalAfter}
-use Rattle.mg_fence.specs.declared.fence.Fence.{Fence}
 use Rattle.mg_serve.specs.Fenced.{IsFenced}
+use Rattle.mg_serve.specs.declared.fencing.Fencing.{Fencing}
 use Rattle.mg_serve.specs.Journaled.{IsJournaled}
 use Rattle.mg_serve.specs.aids.Tried.{IsTried}
-use Rattle.mg_serve.specs.Setup.{Setup}
+use Rattle.mg_serve.specs.Setup.{Setup, fencing_of}
 use Rattle.mg_serve.specs.Trace.{TraceEntry, calls_of}
 use Rattle.mg_serve.specs.aids.Printing.{PrinterView, Prints}
 
@@ -20,12 +20,12 @@ pub record JournalView : Type 0 where
   pub durability : Option Durability
   pub lacking : ℕ
   pub untried : ℕ
-  pub fence : Option Fence
+  pub fencing : Fencing
 
 -- The view of a setup's journal at the start of a session. The journal doesn't lack any ticks.
 abbrev pub new_journal : Setup → JournalView
 new_journal setup =
-    record { durability = setup.journal; lacking = 0; untried = 0; fence = setup.fence }
+    record { durability = setup.journal; lacking = 0; untried = 0; fencing = fencing_of setup }
 
 -- A server as seen from outside: its ports, the content of its writer, its printer, and the progress of its journal.
 pub record Outside : Type 0 where
@@ -46,7 +46,7 @@ pub record LogsTrace (old new : Outside) (trace : List TraceEntry) : Type 0 wher
   pub durability : new.journal.durability ≡ old.journal.durability
   pub lacks : IsJournaled old.journal.durability old.journal.lacking trace new.journal.lacking
   pub tries : IsTried old.journal.durability old.journal.untried trace new.journal.untried
-  pub fenced : IsFenced old.journal.fence trace new.journal.fence
+  pub fenced : IsFenced old.journal.fencing trace new.journal.fencing
 
 -- With some trace, every world that the old core represents steps to a world that the new core represents.
 abbrev pub LeadsByTrace : CoreState → CoreState → Outside → Outside

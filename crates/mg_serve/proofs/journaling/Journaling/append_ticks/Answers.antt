@@ -6,7 +6,7 @@ use Rattle.mg_serve.proofs.journaling.Journaling.append_ticks.Goals as goal
 
 pub returns-in-Err-clause-value : goal.returns-in-Err-clause-value
 returns-in-Err-clause-value g c =
-    let j : JournalView = record { durability = c.self.inside.durability; lacking = c.self.inside.lacking; untried = c.self.inside.untried; fence = c.self.inside.fence } in
+    let j : JournalView = record { durability = c.self.inside.durability; lacking = c.self.inside.lacking; untried = c.self.inside.untried; fencing = c.self.inside.fencing } in
     rw (← c.self.view_is) (ticks_fail c.in-Err.fault
     (ports_seen (g.P.Ports.calls c.args.ports.now) (g.P.Ports.journal c.args.ports.now))
     (ports_seen (g.P.Ports.calls c.append_line.new.ports) (g.P.Ports.journal c.append_line.new.ports))
@@ -17,7 +17,7 @@ returns-in-Err-clause-value g c =
 
 pub returns-clause-value : goal.returns-clause-value
 returns-clause-value g c =
-    let j : JournalView = record { durability = c.self.inside.durability; lacking = c.self.inside.lacking; untried = c.self.inside.untried; fence = c.self.inside.fence } in
+    let j : JournalView = record { durability = c.self.inside.durability; lacking = c.self.inside.lacking; untried = c.self.inside.untried; fencing = c.self.inside.fencing } in
     rw (← c.self.view_is) (ticks_work
     (ports_seen (g.P.Ports.calls c.args.ports.now) (g.P.Ports.journal c.args.ports.now))
     (ports_seen (g.P.Ports.calls c.append_line.new.ports) (g.P.Ports.journal c.append_line.new.ports))

@@ -14,15 +14,15 @@ use Rattle.mg_engine.specs.Apart.{HearsNone}
 use Rattle.mg_engine.specs.Flow.{flow}
 use Rattle.mg_engine.specs.Gateway.{Gateway}
 use Rattle.mg_engine.specs.Isolation.{hears_itself}
-use Rattle.mg_engine.specs.declared.config.Config.{Config}
 use Rattle.mg_engine.specs.declared.datagram.Datagram.{Datagram}
 use Rattle.mg_core.specs.declared.event.Event.{Event}
 use Rattle.mg_core.specs.declared.event.Event.TheVariants.{Tick}
 use Rattle.mg_core.specs.Apart.{HearsNoneAt, UnheardChangesNothing, next_packets}
 use Rattle.mg_core.specs.Counting.{is_tick}
-use Rattle.mg_core.specs.Headline.{IsStart, WorldsAreConsistent}
+use Rattle.mg_core.specs.Base.{IsBase}
+use Rattle.mg_core.specs.Headline.{WorldsAreConsistent}
 use Rattle.mg_core.specs.Step.{Run, Sent}
-use Rattle.mg_core.specs.World.{World, packets_of, start_of}
+use Rattle.mg_core.specs.World.{World, packets_of}
 use Rattle.mg_heard.specs.declared.open_flow.OpenFlow.{OpenFlow}
 use Rattle.mg_heard.specs.Intervals.{Interval, intervals}
 use Rattle.mg_heard.specs.Laws.{IsToldAt}
@@ -113,19 +113,19 @@ not_other v w r e =
 
 -- ## Differences are speech
 
-record DiffersBy (config : Config) (talker listener : ℕ) (past : List Event) : Type 0 where
+record DiffersBy (base : World) (talker listener : ℕ) (past : List Event) : Type 0 where
   moments : List (List OpenFlow)
   whole : World
   without : World
-  runs : RunsWithout talker (start_of config) (start_of config) past moments whole without
+  runs : RunsWithout talker base base past moments whole without
   r : Record
   among : Contains whole.gateway.rooms.terminations r
   number : r.number ≡ listener
   other : is_sent_other whole without r ≡ true
 
-opened : (config : Config) (talker listener : ℕ) (past : List Event) → Differs config talker listener past →
-    DiffersBy config talker listener past
-opened config talker listener past (moments, whole, without, runs, (k, r, within, is, (number, other))) = record {
+opened : (base : World) (talker listener : ℕ) (past : List Event) → Differs base talker listener past →
+    DiffersBy base talker listener past
+opened base talker listener past (moments, whole, without, runs, (k, r, within, is, (number, other))) = record {
   moments = moments;
   whole = whole;
   without = without;
@@ -136,16 +136,16 @@ opened config talker listener past (moments, whole, without, runs, (k, r, within
   other = other;
 }
 
-reaches_first : WorldsAreConsistent → UnheardChangesNothing → (config : Config) (talker listener : ℕ)
-    (past : List Event) → IsStart config → (d : DiffersBy config talker listener past) → (b : Bool) →
+reaches_first : WorldsAreConsistent → UnheardChangesNothing → (base : World) (talker listener : ℕ)
+    (past : List Event) → IsBase base → (d : DiffersBy base talker listener past) → (b : Bool) →
     reaches d.whole.gateway talker d.r.number ≡ b → b ≡ true
-reaches_first consistent unheard config talker listener past start d true e = refl
-reaches_first consistent unheard config talker listener past start d false e =
+reaches_first consistent unheard base talker listener past start d true e = refl
+reaches_first consistent unheard base talker listener past start d false e =
     let v = d.whole in
-    let (sent, run) = first_run talker (start_of config) (start_of config) v d.without past d.moments d.runs in
-    let sound = sound_if v.gateway.rooms (consistent config past sent v start run) in
+    let (sent, run) = first_run talker base base v d.without past d.moments d.runs in
+    let sound = sound_if v.gateway.rooms (consistent base past sent v start run) in
     let port = slot_port v.gateway.rooms.limits d.r.slot in
-    let same = same_next unheard talker (start_of config) v d.without past d.moments port d.runs
+    let same = same_next unheard talker base v d.without past d.moments port d.runs
     (none_at v.gateway talker d.r sound d.among e) in
     absurd (true≢false (sym d.other ∙ not_other v d.without d.r same))
 
@@ -154,13 +154,13 @@ OneRun = (w : World) (events : List Event) (a b : List Sent) (x y : World) →
     Run w events a x → Run w events b y → (a ≡ b) × (x ≡ y)
 
 pub differences_are_speech : OneRun → WorldsAreConsistent → UnheardChangesNothing → DifferencesAreSpeech
-differences_are_speech one consistent unheard config talker listener past sent w start differs run =
-    let d = opened config talker listener past differs in
-    let (also, first) = first_run talker (start_of config) (start_of config) d.whole d.without past d.moments d.runs in
-    let same = (one (start_of config) past also sent d.whole w first run).1 in
+differences_are_speech one consistent unheard base talker listener past sent w start differs run =
+    let d = opened base talker listener past differs in
+    let (also, first) = first_run talker base base d.whole d.without past d.moments d.runs in
+    let same = (one base past also sent d.whole w first run).1 in
     ap (λ (n : ℕ). reaches w.gateway talker n) (sym d.number)
     ∙ ap (λ (x : World). reaches x.gateway talker d.r.number) (sym same)
-    ∙ reaches_first consistent unheard config talker listener past start d
+    ∙ reaches_first consistent unheard base talker listener past start d
     (reaches d.whole.gateway talker d.r.number) refl
 
 -- ## Intervals
@@ -197,11 +197,11 @@ at_tick talker start last other past later moments runs =
     }
 
 -- If an interval contains the tick after `past`, the bytes of this tick differ.
-told_differs : (config : Config) (talker listener : ℕ) (past : List Event) (moments : List (List OpenFlow)) →
-    AtTick talker (start_of config) past moments →
+told_differs : (base : World) (talker listener : ℕ) (past : List Event) (moments : List (List OpenFlow)) →
+    AtTick talker base past moments →
     IsToldAt (count_by is_tick past) talker listener (intervals (reverse moments)) →
-    Differs config talker listener past
-told_differs config talker listener past moments t told =
+    Differs base talker listener past
+told_differs base talker listener past moments t told =
     let n = count_by is_tick past in
     let ts = t.v.gateway.rooms.terminations in
     let (y, i, (pair, lies)) = in_from_any (λ y. IsOfPair talker listener y × LiesIn n y) (intervals (reverse moments))
@@ -214,16 +214,15 @@ told_differs config talker listener past moments t told =
     (t.before, t.v, t.w, t.runs, (index, r, within, is, (sym (ap (λ (x : OpenFlow). x.listener) k) ∙ pair.1, sent)))
 
 -- If the bytes of the tick after `past` differ, an interval contains this tick.
-differs_told : OneOutcome → (config : Config) (talker listener : ℕ) (past : List Event)
-    (moments : List (List OpenFlow)) → AtTick talker (start_of config) past moments →
-    Differs config talker listener past →
+differs_told : OneOutcome → (base : World) (talker listener : ℕ) (past : List Event)
+    (moments : List (List OpenFlow)) → AtTick talker base past moments →
+    Differs base talker listener past →
     IsToldAt (count_by is_tick past) talker listener (intervals (reverse moments))
-differs_told one config talker listener past moments t differs =
-    let d = opened config talker listener past differs in
-    let start = start_of config in
+differs_told one base talker listener past moments t differs =
+    let d = opened base talker listener past differs in
     let n = count_by is_tick past in
     let ts = t.v.gateway.rooms.terminations in
-    let (same, too) = runs_once one talker start start d.whole d.without t.v t.w past d.moments t.before d.runs t.runs in
+    let (same, too) = runs_once one talker base base d.whole d.without t.v t.w past d.moments t.before d.runs t.runs in
     let sent : is_sent_other t.v t.w d.r ≡ true =
     sym (λ j. is_sent_other (same j) (too j) d.r) ∙ d.other in
     let among : Contains ts d.r = subst (λ (x : World). Contains x.gateway.rooms.terminations d.r) same d.among in
@@ -234,20 +233,19 @@ differs_told one config talker listener past moments t differs =
     any_from_in (λ y. IsOfPair talker listener y × LiesIn n y) y (intervals (reverse moments)) j
     ((ap (λ (z : OpenFlow). z.talker) k, ap (λ (z : OpenFlow). z.listener) k ∙ d.number), lies)
 
-pub tells_differences : OneOutcome → (config : Config) (talker : ℕ) (events : List Event) (ys : List Interval) →
-    AreAudible config talker events ys → TellsDifferences config talker events ys
-tells_differences one config talker events ys (moments, last, other, runs, is) past later listener e =
-    let start = start_of config in
+pub tells_differences : OneOutcome → (base : World) (talker : ℕ) (events : List Event) (ys : List Interval) →
+    AreAudible base talker events ys → TellsDifferences base talker events ys
+tells_differences one base talker events ys (moments, last, other, runs, is) past later listener e =
     let n = count_by is_tick past in
-    let t = at_tick talker start last other past later moments
-    (subst (λ (l : List Event). RunsWithout talker start start l moments last other) e runs) in (
-      λ told. told_differs config talker listener past moments t
+    let t = at_tick talker base last other past later moments
+    (subst (λ (l : List Event). RunsWithout talker base base l moments last other) e runs) in (
+      λ told. told_differs base talker listener past moments t
           (subst (λ (l : List Interval). IsToldAt n talker listener l) is told),
       λ d. subst (λ (l : List Interval). IsToldAt n talker listener l) (sym is)
-          (differs_told one config talker listener past moments t d),
+          (differs_told one base talker listener past moments t d),
     )
 
-pub tells_speech : (config : Config) (talker : ℕ) (events : List Event) (ys : List Interval) → DifferencesAreSpeech →
-    IsStart config → TellsDifferences config talker events ys → TellsSpeech config talker events ys
-tells_speech config talker events ys law start differ past later listener sent w e run told =
-    law config talker listener past sent w start ((differ past later listener e).0 told) run
+pub tells_speech : (base : World) (talker : ℕ) (events : List Event) (ys : List Interval) → DifferencesAreSpeech →
+    IsBase base → TellsDifferences base talker events ys → TellsSpeech base talker events ys
+tells_speech base talker events ys law start differ past later listener sent w e run told =
+    law base talker listener past sent w start ((differ past later listener e).0 told) run

@@ -4,24 +4,23 @@ use Rattle.std.specs.Prelude.{count_by}
 use Rattle.std.proofs.lemmas.Bool.Decides.{nat_tests}
 use Rattle.std.proofs.lemmas.List.Sums.{sum_by-cons}
 use Rattle.std.specs.List.{list_any}
-use Rattle.mg_engine.specs.declared.config.Config.{Config}
 use Rattle.mg_core.specs.Counting.{is_media}
 use Rattle.mg_core.specs.Follow.{IsFollowed}
 use Rattle.mg_core.specs.Note.{events_in}
-use Rattle.mg_core.specs.World.{capped}
+use Rattle.mg_core.specs.World.{World, capped}
 use Rattle.mg_core.specs.declared.event.Event.{Event}
 use Rattle.mg_core.specs.declared.state.CoreState.{CoreState}
 use Rattle.mg_heard.specs.declared.entry.Entry.{Entry}
 use Rattle.mg_audible.specs.Told.{TellsAudible}
 
 -- If `P` implies `Q`, a script that was followed with `P` was also followed with `Q`.
-pub reported_all : (config : Config) (talker : ℕ) (has_rtp : Bool) (input rest : Option (List ℕ))
+pub reported_all : (base : World) (talker : ℕ) (has_rtp : Bool) (input rest : Option (List ℕ))
     (P Q : List Entry → Type 0) → ((xs : List Entry) → P xs → Q xs) →
-    ((state : CoreState) × IsFollowed config input rest state
-    (λ notes. TellsAudible config talker notes P × (has_rtp ≡ list_any is_media (events_in notes)))) →
-    (state : CoreState) × IsFollowed config input rest state
-    (λ notes. TellsAudible config talker notes Q × (has_rtp ≡ list_any is_media (events_in notes)))
-reported_all config talker has_rtp input rest P Q more (state, h) = (
+    ((state : CoreState) × IsFollowed base input rest state
+    (λ notes. TellsAudible base talker notes P × (has_rtp ≡ list_any is_media (events_in notes)))) →
+    (state : CoreState) × IsFollowed base input rest state
+    (λ notes. TellsAudible base talker notes Q × (has_rtp ≡ list_any is_media (events_in notes)))
+reported_all base talker has_rtp input rest P Q more (state, h) = (
   state,
   record {
     script = h.script;

@@ -7,11 +7,10 @@ use Rattle.std.specs.Option.{option_map_or}
 use Rattle.std.specs.Str.{bytes_eq}
 use Rattle.mg_rooms.specs.Limits.{slot_port}
 use Rattle.mg_rooms.specs.declared.record.Record.{Record}
-use Rattle.mg_engine.specs.declared.config.Config.{Config}
 use Rattle.mg_engine.specs.declared.datagram.Datagram.{Datagram}
 use Rattle.mg_core.specs.declared.event.Event.{Event}
 use Rattle.mg_core.specs.Counting.{is_tick}
-use Rattle.mg_core.specs.World.{World, packets_of, start_of}
+use Rattle.mg_core.specs.World.{World, packets_of}
 use Rattle.mg_heard.specs.declared.open_flow.OpenFlow.{OpenFlow}
 use Rattle.mg_heard.specs.Intervals.{Interval, intervals}
 use Rattle.mg_heard.specs.OpenFlows.{open_flow}
@@ -49,9 +48,9 @@ RunsWithout talker v w (event ∷ events) moments last other =
     × RunsWithout talker next also events later last other
     × (moments ≡ if is_tick event then audible_flows talker v w ∷ later else later)
 
--- The intervals in which the talker is audible, for gateways with this configuration.
-abbrev pub AreAudible : Config → ℕ → List Event → List Interval → Type 0
-AreAudible config talker events ys =
+-- The intervals in which the talker is audible, for gateways that began with this world.
+abbrev pub AreAudible : World → ℕ → List Event → List Interval → Type 0
+AreAudible base talker events ys =
     (moments : List (List OpenFlow)) × (last : World) × (other : World)
-    × RunsWithout talker (start_of config) (start_of config) events moments last other
+    × RunsWithout talker base base events moments last other
     × (ys ≡ intervals (reverse moments))

@@ -1,16 +1,15 @@
 ghost use Rattle.std.specs.Prelude.{◌≡◌, ◌++◌, [], IfOk, List, OnOk};
-ghost use Rattle.mg_engine.specs.Config.{IsValidConfig};
-ghost use Rattle.mg_engine.specs.declared.config.Config.{Config};
+ghost use Rattle.mg_core.specs.Base.{IsBase};
 ghost use Rattle.mg_core.specs.Follow.{ticks_of};
-ghost use Rattle.mg_core.specs.Headline.{IsStart};
 ghost use Rattle.mg_core.specs.Note.{Note};
+ghost use Rattle.mg_core.specs.World.{World};
 ghost use Rattle.mg_audible.specs.Told.{TellsAudible};
-ghost use Rattle.mg_audible.specs.aids.Keeping.{KeepsTimed};
+ghost use Rattle.mg_audible.specs.aids.Keeping.{KeepsTimed, StandForBoth};
 
 use crate::pair::Pair;
 use crate::telling::tell_audible;
 use crate::theorems::differences_are_speech;
-use mg_core::{Config, Core, Event, Follower, RunFault, Stopped};
+use mg_core::{Core, Event, Follower, Stopped};
 use mg_heard::{Clock, ClockFault, HeardFault, OpenIntervals, Sink, tell_gap};
 use std::alloc::Global;
 
@@ -35,24 +34,15 @@ pub(crate) struct Audible<S: Sink> {
 
 impl<S: Sink> Audible<S> {
     /// Creates a follower at the beginning of a script.
-    pub(crate) fn new(
-        alloc: Global,
-        config: Config,
-        talker: u32,
-        sink: S,
-    ) -> Result<Self, HeardFault>
+    pub(crate) fn new(alloc: Global, pair: Pair, sink: S) -> Result<Self, HeardFault>
     where
         S: Drop,
-        ensures start { S.told sink sink [] → IfOk result (λ a. KeepsTimed config talker [] a.pair.whole.state
+        ensures start { (base : World) → StandForBoth pair.whole.state pair.without.state base base →
+            S.told sink sink [] → IfOk result (λ a. KeepsTimed base pair.talker [] a.pair.whole.state
             a.pair.without.state a.clock a.open (S.told a.sink a.sink)) }
         ensures sink { IfOk result (λ a. a.sink ≡ sink) }
-        ensures talker { IfOk result (λ a. a.pair.talker ≡ talker) }
-        ensures sound { OnOk result (IsValidConfig config) }
+        ensures talker { IfOk result (λ a. a.pair.talker ≡ pair.talker) }
     {
-        let pair = match Pair::new(alloc, config, talker) {
-            Ok(pair) => pair,
-            Err(fault) => return Err(HeardFault::Run(RunFault::from(fault))),
-        };
         let Ok(open) = OpenIntervals::new(alloc) else {
             return Err(HeardFault::NoMemory);
         };
@@ -78,10 +68,10 @@ impl<S: Sink> Audible<S> {
 
     /// Runs a tick on both gateways, and reports the intervals that end with the tick.
     fn pass_tick(&mut self) -> Result<(), Stopped>
-        ensures value { (start : S) (config : Config) (notes : List Note) →
-            KeepsTimed config self.old.pair.talker notes self.old.pair.whole.state self.old.pair.without.state
+        ensures value { (start : S) (base : World) (notes : List Note) →
+            KeepsTimed base self.old.pair.talker notes self.old.pair.whole.state self.old.pair.without.state
             self.old.clock self.old.open (S.told start self.old.sink) →
-            OnOk result (KeepsTimed config self.old.pair.talker (notes ++ ticks_of 1) self.new.pair.whole.state
+            OnOk result (KeepsTimed base self.old.pair.talker (notes ++ ticks_of 1) self.new.pair.whole.state
             self.new.pair.without.state self.new.clock self.new.open (S.told start self.new.sink)) }
         ensures talker { OnOk result (self.new.pair.talker ≡ self.old.pair.talker) }
     {
@@ -97,10 +87,10 @@ impl<S: Sink> Audible<S> {
 
     /// Reports the intervals that have not ended at the end of a script.
     pub(crate) fn finish(&mut self) -> Result<(), Stopped>
-        ensures value { (start : S) (config : Config) (notes : List Note) → IsStart config →
-            KeepsTimed config self.old.pair.talker notes self.old.pair.whole.state self.old.pair.without.state
+        ensures value { (start : S) (base : World) (notes : List Note) → IsBase base →
+            KeepsTimed base self.old.pair.talker notes self.old.pair.whole.state self.old.pair.without.state
             self.old.clock self.old.open (S.told start self.old.sink) →
-            OnOk result (TellsAudible config self.old.pair.talker notes (S.told start self.new.sink)) }
+            OnOk result (TellsAudible base self.old.pair.talker notes (S.told start self.new.sink)) }
     {
         mg_core::theorems::outcomes_are_unique();
         differences_are_speech();
@@ -114,8 +104,8 @@ impl<S: Sink> Follower for Audible<S> {
 
     ghost may_stop = { true };
 
-    ghost follows = { λ start a config notes. (a.pair.talker ≡ start.pair.talker)
-        × KeepsTimed config start.pair.talker notes a.pair.whole.state a.pair.without.state a.clock a.open
+    ghost follows = { λ start a base notes. (a.pair.talker ≡ start.pair.talker)
+        × KeepsTimed base start.pair.talker notes a.pair.whole.state a.pair.without.state a.clock a.open
         (S.told start.sink a.sink) };
 
     fn comment(&mut self, number: u64, line: &[u8]) -> Result<(), Stopped> {

@@ -1,41 +1,54 @@
 ghost use Rattle.std.specs.Prelude.{◌≡◌, [], IfOk, List};
 ghost use Rattle.std.specs.List.{list_any};
-ghost use Rattle.mg_engine.specs.declared.config.Config.{Config};
+ghost use Rattle.mg_core.specs.Base.{IsBase};
 ghost use Rattle.mg_core.specs.Counting.{is_media};
 ghost use Rattle.mg_core.specs.Follow.{HasRun, IsFollowed};
-ghost use Rattle.mg_core.specs.Headline.{IsStart};
 ghost use Rattle.mg_core.specs.Note.{Note, events_in};
+ghost use Rattle.mg_core.specs.World.{World};
 ghost use Rattle.mg_core.specs.declared.state.CoreState.{CoreState};
 ghost use Rattle.mg_audible.specs.Told.{TellsAudible};
-ghost use Rattle.mg_audible.specs.aids.Keeping.{KeepsTimed};
+ghost use Rattle.mg_audible.specs.aids.Keeping.{AllStandFor, KeepsTimed};
 
 use crate::audible::Audible;
-use mg_core::{Config, Core, RunFault, resume};
+use crate::gateways::Gateways;
+use crate::pair::Pair;
+use mg_core::{Core, RunFault, resume_from};
 use mg_heard::{HeardFault, Sink};
 use std::alloc::Global;
 use std::io::Read;
 
-/// Runs a script, and reports to a sink when the talker with this number was audible, and to whom, as a series of
-/// intervals. Returns the sink, and whether the script has any RTP datagrams.
+/// Runs a script on gateways that have counted no RTP datagrams, and reports to a sink when the talker with this number
+/// was audible, and to whom, as a series of intervals. Returns the sink, and whether the script has any RTP datagrams.
 ///
-/// An interval is reported when it ends or when the script ends, so the memory needed does not grow with the script.
-/// Two gateways mix all packets, but send none.
+/// Ticks are counted from the script's beginning. An interval is reported when it ends or when the script ends, so the
+/// memory needed does not grow with the script. Two gateways mix all packets, but send none.
 pub fn hear_talker<R: Read, S: Sink>(
     alloc: Global,
-    config: Config,
+    gateways: Gateways,
     reader: &mut R,
     talker: u32,
     sink: S,
 ) -> Result<(S, bool), HeardFault>
 where
     S: Drop,
-    ensures told { S.told sink sink [] → IfOk result (λ heard. (state : CoreState) ×
-        IsFollowed config (R.remaining reader.old) (R.remaining reader.new) state
-        (λ notes. TellsAudible config talker notes (S.told sink heard.0)
+    ensures told { (base : World) → AllStandFor gateways base → IsBase base → base.tally.media ≡ 0 →
+        S.told sink sink [] → IfOk result (λ heard. (state : CoreState) ×
+        IsFollowed base (R.remaining reader.old) (R.remaining reader.new) state
+        (λ notes. TellsAudible base talker notes (S.told sink heard.0)
         × (heard.1 ≡ list_any is_media (events_in notes)))) }
 {
-    let mut audible = Audible::new(alloc, config, talker, sink)?;
-    match resume(alloc, config, reader, &mut audible) {
+    let Gateways {
+        script,
+        whole,
+        without,
+    } = gateways;
+    let pair = Pair {
+        talker,
+        whole,
+        without,
+    };
+    let mut audible = Audible::new(alloc, pair, sink)?;
+    match resume_from(alloc, script, reader, &mut audible) {
         Ok(core) => {
             let has_rtp = has_rtp(&core);
             Ok((finish(audible)?, has_rtp))
@@ -48,10 +61,10 @@ where
 fn finish<S: Sink>(mut audible: Audible<S>) -> Result<S, HeardFault>
 where
     S: Drop,
-    ensures value { (start : S) (config : Config) (notes : List Note) → IsStart config →
-        KeepsTimed config audible.pair.talker notes audible.pair.whole.state audible.pair.without.state
+    ensures value { (start : S) (base : World) (notes : List Note) → IsBase base →
+        KeepsTimed base audible.pair.talker notes audible.pair.whole.state audible.pair.without.state
         audible.clock audible.open (S.told start audible.sink) →
-        IfOk result (λ last. TellsAudible config audible.pair.talker notes (S.told start last)) }
+        IfOk result (λ last. TellsAudible base audible.pair.talker notes (S.told start last)) }
 {
     match audible.finish() {
         Ok(_) => Ok(audible.sink),
@@ -59,10 +72,10 @@ where
     }
 }
 
-/// Returns whether a core has received any RTP datagrams.
+/// Returns whether a core that had counted no RTP datagrams has received any.
 fn has_rtp(core: &Core) -> bool
-    ensures value { (config : Config) (notes : List Note) → HasRun config notes core.now.state →
-        result ≡ list_any is_media (events_in notes) }
+    ensures value { (base : World) (notes : List Note) → IsBase base → base.tally.media ≡ 0 →
+        HasRun base notes core.now.state → result ≡ list_any is_media (events_in notes) }
 {
     mg_core::theorems::events_are_counted();
     core.counts().media > 0

@@ -5,7 +5,7 @@
 //! listener differ, the talker was audible to that listener:
 //!
 //! ```rust
-//! let (sink, has_rtp) = hear_talker(alloc, config, &mut input, 3, sink)?;
+//! let (sink, has_rtp) = hear_talker(alloc, gateways, &mut input, 3, sink)?;
 //! ```
 //!
 //! [`write_audible`] writes a line for each audible interval and each gap that a query selects.
@@ -19,6 +19,7 @@
 
 mod audible;
 mod differences;
+mod gateways;
 mod hearing;
 mod pair;
 mod ports;
@@ -27,6 +28,7 @@ mod talker_query;
 mod telling;
 pub mod theorems;
 
+pub use crate::gateways::Gateways;
 pub use crate::hearing::hear_talker;
 pub use crate::reporting::write_audible;
 pub use crate::talker_query::TalkerQuery;

@@ -1,14 +1,13 @@
-ghost use Rattle.std.specs.Prelude.{◌≡◌, ◌≤◌, length, IfOk, OnOk};
+ghost use Rattle.std.specs.Prelude.{◌≡◌, ◌≤◌, length, OnOk};
 ghost use Rattle.mg_rooms.specs.Consistent.{IsConsistent};
-ghost use Rattle.mg_engine.specs.Config.{IsValidConfig};
-ghost use Rattle.mg_core.specs.World.{World, start_of, world_after_tick};
+ghost use Rattle.mg_core.specs.World.{World, world_after_tick};
 ghost use Rattle.mg_core.specs.declared.event.Event.TheVariants as events;
 ghost use Rattle.mg_audible.specs.Audible.{audible_flows};
 ghost use Rattle.mg_audible.specs.aids.Keeping.{LeadsBoth, StandForBoth};
 
 use crate::differences::{AudibleFlows, audible_flows};
 use crate::ports::is_port_of;
-use mg_core::{Config, Core, NoMemory, Peer, StartFault, TERMINATIONS};
+use mg_core::{Core, NoMemory, Peer, TERMINATIONS};
 use std::alloc::Global;
 
 /// Two gateways with the same events, except that the second gateway does not receive the talker's speech.
@@ -21,20 +20,6 @@ pub(crate) struct Pair {
 }
 
 impl Pair {
-    /// Starts both gateways with this configuration.
-    pub(crate) fn new(alloc: Global, config: Config, talker: u32) -> Result<Self, StartFault>
-        ensures start { IfOk result (λ pair.
-            StandForBoth pair.whole.state pair.without.state (start_of config) (start_of config)) }
-        ensures talker { IfOk result (λ pair. pair.talker ≡ talker) }
-        ensures sound { OnOk result (IsValidConfig config) }
-    {
-        Ok(Pair {
-            talker,
-            whole: Core::new(alloc, config)?,
-            without: Core::new(alloc, config)?,
-        })
-    }
-
     /// Handles an RTP datagram. If it is speech of the talker, only the first gateway receives it.
     pub(crate) fn media(&mut self, port: u16, source: Peer, bytes: &[u8])
         ensures value { LeadsBoth self.old.talker (events.Media port source bytes.now) self.old.whole.state

@@ -2,10 +2,10 @@
 use Rattle.std.proofs.Common.{◌≡◌, ℕ, Bool, true, false, cond, List, [], ◌∷◌, ◌++◌, Option, Some, None, refl, sym, ap, subst, ◌∙◌}
 use Rattle.std.specs.Prelude.{◌&&◌}
 use Rattle.std.specs.Option.{option_or}
-use Rattle.mg_engine.specs.declared.config.Config.{Config}
 use Rattle.mg_core.specs.declared.state.CoreState.{CoreState}
 use Rattle.mg_core.specs.Note.{Note}
 use Rattle.mg_core.specs.Follow.{IsFollowed}
+use Rattle.mg_core.specs.World.{World}
 use Rattle.mg_dates.specs.declared.date.Date.{Date}
 use Rattle.mg_heard.specs.declared.entry.Entry.{Entry}
 use Rattle.mg_heard.specs.declared.entry.Entry.TheVariants as entries
@@ -102,14 +102,14 @@ found_none start = record {
 abbrev asked : Query → Date → Instant
 asked query time = record { query = query; time = time; heard = None; gap = None }
 
-pub answers_found : (config : Config) (input rest : Option (List ℕ)) (state : CoreState) (A : List Note → Type 0)
+pub answers_found : (base : World) (input rest : Option (List ℕ)) (state : CoreState) (A : List Note → Type 0)
     (query : Query) (time : Date) (start now : Instant) (covered : Extent) (verdict : Verdict) → start ≡ asked query time →
     verdict ≡ verdict_of (is_within covered now.time) now.gap now.heard →
-    IsFollowed config input rest state
-    (λ notes. A notes × TellsAll config notes (λ extent xs. HasFound start now xs × (covered ≡ extent))) →
-    IsFollowed config input rest state
-    (λ notes. A notes × TellsAll config notes (λ extent xs. verdict ≡ verdict_at query time extent xs))
-answers_found config input rest state A query time start now covered verdict is e h = record {
+    IsFollowed base input rest state
+    (λ notes. A notes × TellsAll base notes (λ extent xs. HasFound start now xs × (covered ≡ extent))) →
+    IsFollowed base input rest state
+    (λ notes. A notes × TellsAll base notes (λ extent xs. verdict ≡ verdict_at query time extent xs))
+answers_found base input rest state A query time start now covered verdict is e h = record {
   script = h.script;
   read = h.read;
   notes = h.notes;
@@ -117,7 +117,7 @@ answers_found config input rest state A query time start now covered verdict is 
   run = h.run;
   follows = (
     h.follows.0,
-    tells_weaker config h.notes (λ extent xs. HasFound start now xs × (covered ≡ extent))
+    tells_weaker base h.notes (λ extent xs. HasFound start now xs × (covered ≡ extent))
         (λ extent xs. verdict ≡ verdict_at query time extent xs)
         (λ xs (told, covers).
         let found = subst (λ (s : Instant). HasFound s now xs) is told in

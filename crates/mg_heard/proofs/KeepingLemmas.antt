@@ -4,7 +4,6 @@ use Rattle.std.specs.Prelude.{reverse}
 use Rattle.std.proofs.lemmas.Bool.{true≢false}
 use Rattle.std.proofs.lemmas.List.{append-nil, append_assoc, map-append, reverse-append, reverse-reverse, take_all, take_more}
 use Rattle.mg_words.specs.declared.peer.Peer.{Peer}
-use Rattle.mg_engine.specs.declared.config.Config.{Config}
 use Rattle.mg_core.specs.declared.event.Event.{Event}
 use Rattle.mg_core.specs.declared.event.Event.TheVariants.{Control, Media, Tick}
 use Rattle.mg_core.specs.declared.state.CoreState.{CoreState}
@@ -12,7 +11,7 @@ use Rattle.mg_core.specs.Counting.{is_control, is_tick}
 use Rattle.mg_core.specs.Follow.{HasRun, ticks_of}
 use Rattle.mg_core.specs.Note.{Note, Comment, Happened, events_in}
 use Rattle.mg_core.specs.Step.{Run, Sent, Step}
-use Rattle.mg_core.specs.World.{World, start_of}
+use Rattle.mg_core.specs.World.{World}
 use Rattle.mg_heard.specs.declared.entry.Entry.{Entry}
 use Rattle.mg_heard.specs.declared.entry.Entry.TheVariants as entries
 use Rattle.mg_heard.specs.declared.gap.Gap.{Gap}
@@ -195,13 +194,13 @@ told_whole end before xs i all = ap (λ (l : List OpenInterval). before ++ map (
 
 -- ## One more note
 
-pub keeps_start : (config : Config) (tick : ℕ) (is_changed : Bool) (stored : List OpenInterval)
+pub keeps_start : (base : World) (tick : ℕ) (is_changed : Bool) (stored : List OpenInterval)
     (Told : List Entry → Type 0) → tick ≡ 0 → is_changed ≡ true → stored ≡ [] → Told [] →
-    KeepsOpen config [] tick is_changed stored Told
+    KeepsOpen base [] tick is_changed stored Told
 unfolding ended
-keeps_start config tick is_changed stored Told none changed empty told = record {
+keeps_start base tick is_changed stored Told none changed empty told = record {
   past = [];
-  now = open_flows (start_of config).gateway;
+  now = open_flows base.gateway;
   are = refl;
   count = none;
   same = λ e. absurd (true≢false (sym changed ∙ e));
@@ -215,25 +214,25 @@ keeps_start config tick is_changed stored Told none changed empty told = record 
   };
 }
 
-pub keeps_comment : (config : Config) (notes : List Note) (line : List ℕ) (tick next : ℕ) (is_changed : Bool)
+pub keeps_comment : (base : World) (notes : List Note) (line : List ℕ) (tick next : ℕ) (is_changed : Bool)
     (stored : List OpenInterval) (Told : List Entry → Type 0) → next ≡ tick →
-    KeepsOpen config notes tick is_changed stored Told →
-    KeepsOpen config (notes ++ Comment line ∷ []) next is_changed stored Told
-keeps_comment config notes line tick next is_changed stored Told e h = record {
+    KeepsOpen base notes tick is_changed stored Told →
+    KeepsOpen base (notes ++ Comment line ∷ []) next is_changed stored Told
+keeps_comment base notes line tick next is_changed stored Told e h = record {
   past = h.past;
   now = h.now;
-  are = subst (λ (l : List Event). AreMoments (start_of config) l (reverse (h.now ∷ h.past)))
+  are = subst (λ (l : List Event). AreMoments base l (reverse (h.now ∷ h.past)))
       (sym (events_in_both notes (Comment line ∷ []) ∙ append-nil (events_in notes))) h.are;
   count = e ∙ h.count;
   same = h.same;
   tells = h.tells;
 }
 
-pub keeps_gap : (config : Config) (notes : List Note) (gap : Gap) (tick : ℕ) (is_changed : Bool)
+pub keeps_gap : (base : World) (notes : List Note) (gap : Gap) (tick : ℕ) (is_changed : Bool)
     (stored : List OpenInterval) (Told ToldNext : List Entry → Type 0) →
     ((before : List Entry) → Told before → ToldNext (before ++ entries.Gap gap ∷ [])) →
-    KeepsOpen config notes tick is_changed stored Told → KeepsOpen config notes tick is_changed stored ToldNext
-keeps_gap config notes gap tick is_changed stored Told ToldNext tells h = record {
+    KeepsOpen base notes tick is_changed stored Told → KeepsOpen base notes tick is_changed stored ToldNext
+keeps_gap base notes gap tick is_changed stored Told ToldNext tells h = record {
   past = h.past;
   now = h.now;
   are = h.are;
@@ -250,22 +249,22 @@ keeps_gap config notes gap tick is_changed stored Told ToldNext tells h = record
 }
 
 -- After a gap is reported, `KeepsOpen` still holds, unless the sink refuses the gap.
-pub keeps_gap_on : {E : Type 0} (config : Config) (notes : List Note) (gap : Gap) (tick : ℕ) (is_changed : Bool)
+pub keeps_gap_on : {E : Type 0} (base : World) (notes : List Note) (gap : Gap) (tick : ℕ) (is_changed : Bool)
     (stored : List OpenInterval) (Told ToldNext : List Entry → Type 0) (result : Result (Unit {0}) E) →
     ((before : List Entry) → Told before → OnOk result (ToldNext (before ++ entries.Gap gap ∷ []))) →
-    KeepsOpen config notes tick is_changed stored Told →
-    OnOk result (KeepsOpen config notes tick is_changed stored ToldNext)
-keeps_gap_on config notes gap tick is_changed stored Told ToldNext (Ok done) tells h =
-    keeps_gap config notes gap tick is_changed stored Told ToldNext tells h
-keeps_gap_on config notes gap tick is_changed stored Told ToldNext (Err error) tells h = tt
+    KeepsOpen base notes tick is_changed stored Told →
+    OnOk result (KeepsOpen base notes tick is_changed stored ToldNext)
+keeps_gap_on base notes gap tick is_changed stored Told ToldNext (Ok done) tells h =
+    keeps_gap base notes gap tick is_changed stored Told ToldNext tells h
+keeps_gap_on base notes gap tick is_changed stored Told ToldNext (Err error) tells h = tt
 
 -- The open flows in `KeepsOpen` are those of the world after the notes.
-pub now_is : OneOutcome → (config : Config) (notes : List Note) (tick : ℕ) (is_changed : Bool)
+pub now_is : OneOutcome → (base : World) (notes : List Note) (tick : ℕ) (is_changed : Bool)
     (stored : List OpenInterval) (Told : List Entry → Type 0) (sent : List Sent) (w : World) →
-    Run (start_of config) (events_in notes) sent w → (h : KeepsOpen config notes tick is_changed stored Told) →
+    Run base (events_in notes) sent w → (h : KeepsOpen base notes tick is_changed stored Told) →
     h.now ≡ open_flows w.gateway
-now_is one config notes tick is_changed stored Told sent w run h =
-    (extends one (start_of config) w (events_in notes) [] sent h.now h.past (open_flows w.gateway ∷ []) run h.are refl).is
+now_is one base notes tick is_changed stored Told sent w run h =
+    (extends one base w (events_in notes) [] sent h.now h.past (open_flows w.gateway ∷ []) run h.are refl).is
 
 -- A run that ends with this event, split into the run before the event and the event's step.
 pub record Split (a w : World) (events : List Event) (event : Event) : Type 0 where
@@ -316,23 +315,23 @@ one_moment w next event sent h step = (
   sym (ap (λ (b : Bool). if_tick b w (open_flows next.gateway ∷ [])) (no_tick event h)),
 )
 
-pub keeps_datagram : OneOutcome → OnlyControlChangesFlows → (config : Config) (notes : List Note) (event : Event)
+pub keeps_datagram : OneOutcome → OnlyControlChangesFlows → (base : World) (notes : List Note) (event : Event)
     (tick next : ℕ) (is_changed will_change : Bool) (stored : List OpenInterval) (Told : List Entry → Type 0)
     (state : CoreState) → next ≡ tick → event ≢ Tick →
     (will_change ≡ false → (is_control event ≡ false) × (is_changed ≡ false)) →
-    HasRun config (notes ++ Happened event ∷ []) state → KeepsOpen config notes tick is_changed stored Told →
-    KeepsOpen config (notes ++ Happened event ∷ []) next will_change stored Told
-keeps_datagram one only config notes event tick next is_changed will_change stored Told state same not changes (sent, w, (run, stands)) h =
+    HasRun base (notes ++ Happened event ∷ []) state → KeepsOpen base notes tick is_changed stored Told →
+    KeepsOpen base (notes ++ Happened event ∷ []) next will_change stored Told
+keeps_datagram one only base notes event tick next is_changed will_change stored Told state same not changes (sent, w, (run, stands)) h =
     let all = events_in_both notes (Happened event ∷ []) in
-    let s = split (start_of config) w (events_in notes) event sent
-    (subst (λ (l : List Event). Run (start_of config) l sent w) all run) in
-    let e = extends one (start_of config) s.mid (events_in notes) (event ∷ []) s.before h.now h.past
+    let s = split base w (events_in notes) event sent
+    (subst (λ (l : List Event). Run base l sent w) all run) in
+    let e = extends one base s.mid (events_in notes) (event ∷ []) s.before h.now h.past
     (open_flows w.gateway ∷ []) s.run h.are (one_moment s.mid w event s.sent not s.step) in
     record {
       past = h.past;
       now = open_flows w.gateway;
-      are = subst (λ (l : List Event). AreMoments (start_of config) l (reverse (open_flows w.gateway ∷ h.past))) (sym all)
-          (subst (λ (l : List (List OpenFlow)). AreMoments (start_of config) (events_in notes ++ event ∷ []) l)
+      are = subst (λ (l : List Event). AreMoments base l (reverse (open_flows w.gateway ∷ h.past))) (sym all)
+          (subst (λ (l : List (List OpenFlow)). AreMoments base (events_in notes ++ event ∷ []) l)
           (sym (reverse-append (open_flows w.gateway ∷ []) h.past)) e.are);
       count = same ∙ h.count;
       same = λ k. let (speech, before) = changes k in

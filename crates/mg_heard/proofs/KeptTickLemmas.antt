@@ -4,7 +4,6 @@ use Rattle.std.specs.Prelude.{reverse}
 use Rattle.std.proofs.lemmas.Result.{on_ok_weaker}
 use Rattle.std.proofs.lemmas.List.Elements.{All-nil}
 use Rattle.std.proofs.lemmas.List.{append-nil, length-append, length-replicate, reverse-append, reverse-reverse}
-use Rattle.mg_engine.specs.declared.config.Config.{Config}
 use Rattle.mg_core.specs.declared.event.Event.{Event}
 use Rattle.mg_core.specs.declared.event.Event.TheVariants.{Tick}
 use Rattle.mg_core.specs.declared.state.CoreState.{CoreState}
@@ -12,7 +11,7 @@ use Rattle.mg_core.specs.Counting.{is_control}
 use Rattle.mg_core.specs.Follow.{HasRun, IsFollowed, ticks_of}
 use Rattle.mg_core.specs.Note.{Note, Comment, Happened, events_in}
 use Rattle.mg_core.specs.Step.{Packet, Run, Sent}
-use Rattle.mg_core.specs.World.{World, packets_of, start_of, world_after_tick}
+use Rattle.mg_core.specs.World.{World, packets_of, world_after_tick}
 use Rattle.mg_dates.proofs.TimeLemmas.{back_one, back_ticks}
 use Rattle.mg_heard.specs.declared.clock.Clock.{Clock}
 use Rattle.mg_heard.specs.declared.entry.Entry.{Entry}
@@ -69,24 +68,24 @@ back_to_front n flows past =
     (sym (same_back n flows []) ∙ append-nil (replicate (suc n) flows) ∙ sym (same_reversed (suc n) flows))
     ∙ sym (reverse-append (replicate (suc n) flows) past)
 
-keeps_ticks : OneOutcome → OnlyControlChangesFlows → EqualMomentsTellNothing → (config : Config)
+keeps_ticks : OneOutcome → OnlyControlChangesFlows → EqualMomentsTellNothing → (base : World)
     (notes : List Note) (tick next n : ℕ) (is_changed will_change : Bool) (stored new : List OpenInterval)
     (Told ToldNext : List Entry → Type 0) (sent : List Sent) (w : World) → next ≡ tick + suc n →
-    Run (start_of config) (events_in notes) sent w → (h : KeepsOpen config notes tick is_changed stored Told) →
+    Run base (events_in notes) sent w → (h : KeepsOpen base notes tick is_changed stored Told) →
     TellsPast (open_flows w.gateway ∷ h.past) new ToldNext →
-    KeepsOpen config (notes ++ ticks_of (suc n)) next will_change new ToldNext
-keeps_ticks one only equal config notes tick next n is_changed will_change stored new Told ToldNext sent w sum run h tells =
+    KeepsOpen base (notes ++ ticks_of (suc n)) next will_change new ToldNext
+keeps_ticks one only equal base notes tick next n is_changed will_change stored new Told ToldNext sent w sum run h tells =
     let flows = open_flows w.gateway in
-    let e = extends one (start_of config) w (events_in notes) (replicate (suc n) Tick) sent h.now h.past
+    let e = extends one base w (events_in notes) (replicate (suc n) Tick) sent h.now h.past
     (replicate (suc n) flows ++ flows ∷ []) run h.are (tick_moments only (suc n) w flows refl) in
     let same = equal flows h.past n in
     let back = same_back n flows h.past in
     record {
       past = replicate (suc n) flows ++ h.past;
       now = flows;
-      are = subst (λ (l : List Event). AreMoments (start_of config) l (reverse (flows ∷ (replicate (suc n) flows ++ h.past))))
+      are = subst (λ (l : List Event). AreMoments base l (reverse (flows ∷ (replicate (suc n) flows ++ h.past))))
           (sym (events_with_ticks notes (suc n)))
-          (subst (λ (l : List (List OpenFlow)). AreMoments (start_of config) (events_in notes ++ replicate (suc n) Tick) l)
+          (subst (λ (l : List (List OpenFlow)). AreMoments base (events_in notes ++ replicate (suc n) Tick) l)
           (back_to_front (suc n) flows h.past) e.are);
       count = let k = h.count in omega (arith, length-append (replicate (suc n) flows) h.past, length-replicate (suc n) flows);
       same = λ k. refl;
@@ -99,46 +98,46 @@ keeps_ticks one only equal config notes tick next n is_changed will_change store
       };
     }
 
-pub keeps_some_ticks : OneOutcome → OnlyControlChangesFlows → EqualMomentsTellNothing → (config : Config)
+pub keeps_some_ticks : OneOutcome → OnlyControlChangesFlows → EqualMomentsTellNothing → (base : World)
     (notes : List Note) (tick next count : ℕ) (is_changed will_change : Bool) (stored new : List OpenInterval)
     (Told ToldNext : List Entry → Type 0) (sent : List Sent) (w : World) → count ≢ 0 → next ≡ tick + count →
-    Run (start_of config) (events_in notes) sent w → (h : KeepsOpen config notes tick is_changed stored Told) →
+    Run base (events_in notes) sent w → (h : KeepsOpen base notes tick is_changed stored Told) →
     TellsPast (open_flows w.gateway ∷ h.past) new ToldNext →
-    KeepsOpen config (notes ++ ticks_of count) next will_change new ToldNext
-keeps_some_ticks one only equal config notes tick next zero is_changed will_change stored new Told ToldNext sent w some sum
+    KeepsOpen base (notes ++ ticks_of count) next will_change new ToldNext
+keeps_some_ticks one only equal base notes tick next zero is_changed will_change stored new Told ToldNext sent w some sum
     run h tells = absurd (some refl)
-keeps_some_ticks one only equal config notes tick next (suc n) is_changed will_change stored new Told ToldNext sent w some
+keeps_some_ticks one only equal base notes tick next (suc n) is_changed will_change stored new Told ToldNext sent w some
     sum run h tells =
-    keeps_ticks one only equal config notes tick next n is_changed will_change stored new Told ToldNext sent w sum run h tells
+    keeps_ticks one only equal base notes tick next n is_changed will_change stored new Told ToldNext sent w sum run h tells
 
-pub keeps_no_tick : (config : Config) (notes : List Note) (tick count : ℕ) (is_changed : Bool)
+pub keeps_no_tick : (base : World) (notes : List Note) (tick count : ℕ) (is_changed : Bool)
     (stored : List OpenInterval) (Told : List Entry → Type 0) → count ≡ 0 →
-    KeepsOpen config notes tick is_changed stored Told →
-    KeepsOpen config (notes ++ ticks_of count) tick is_changed stored Told
-keeps_no_tick config notes tick count is_changed stored Told none h =
-    subst (λ (l : List Note). KeepsOpen config l tick is_changed stored Told)
+    KeepsOpen base notes tick is_changed stored Told →
+    KeepsOpen base (notes ++ ticks_of count) tick is_changed stored Told
+keeps_no_tick base notes tick count is_changed stored Told none h =
+    subst (λ (l : List Note). KeepsOpen base l tick is_changed stored Told)
     (sym (append-nil notes) ∙ ap (λ (n : ℕ). notes ++ ticks_of n) (sym none)) h
 
 -- ## The end of a script
 
 abbrev TellTheFlow : Type 0
-TellTheFlow = (config : Config) (events : List Event) (ys : List Interval) → AreIntervals config events ys →
-    TellsTheFlow config events ys
+TellTheFlow = (base : World) (events : List Event) (ys : List Interval) → AreIntervals base events ys →
+    TellsTheFlow base events ys
 
-pub tells_all : OneOutcome → TellTheFlow → (config : Config) (notes : List Note) (tick bound : ℕ)
+pub tells_all : OneOutcome → TellTheFlow → (base : World) (notes : List Note) (tick bound : ℕ)
     (is_changed : Bool) (stored new : List OpenInterval) (Told ToldNow ToldNext : List Entry → Type 0)
-    (sent : List Sent) (w : World) → Run (start_of config) (events_in notes) sent w →
-    (h : KeepsOpen config notes tick is_changed stored Told) → TellsPast (open_flows w.gateway ∷ h.past) new ToldNow →
+    (sent : List Sent) (w : World) → Run base (events_in notes) sent w →
+    (h : KeepsOpen base notes tick is_changed stored Told) → TellsPast (open_flows w.gateway ∷ h.past) new ToldNow →
     ((before : List Entry) → ToldNow before → Timed (reverse notes) bound ToldNext (before ++ map (entry_until None) new)) →
-    TellsAll config notes (λ _. ToldNext)
-tells_all one law config notes tick bound is_changed stored new Told ToldNow ToldNext sent w run h tells last =
+    TellsAll base notes (λ _. ToldNext)
+tells_all one law base notes tick bound is_changed stored new Told ToldNow ToldNext sent w run h tells last =
     let flows = open_flows w.gateway in
-    let now = now_is one config notes tick is_changed stored Told sent w run h in
+    let now = now_is one base notes tick is_changed stored Told sent w run h in
     let xs = tells.xs ++ map (entry_until None) new in
     let all : intervals_in xs ≡ intervals (flows ∷ h.past) = intervals_in_both tells.xs (map (entry_until None) new)
     ∙ ap (λ (l : List Interval). l ++ intervals_in (map (entry_until None) new)) tells.ended_are
     ∙ ap (λ (l : List Interval). ended (flows ∷ h.past) ++ l) (told_open new ∙ tells.lasts.1) in
-    let are : AreIntervals config (events_in notes) (intervals_in xs) = (
+    let are : AreIntervals base (events_in notes) (intervals_in xs) = (
       reverse (h.now ∷ h.past),
       h.are,
       all ∙ ap (λ (l : List OpenFlow). intervals (l ∷ h.past)) (sym now)
@@ -149,29 +148,29 @@ tells_all one law config notes tick bound is_changed stored new Told ToldNow Tol
       xs = xs;
       no_others = still_none tells.xs (map (entry_until None) new) tells.no_others (none_audible None new);
       are = are;
-      flow = law config (events_in notes) (intervals_in xs) are;
+      flow = law base (events_in notes) (intervals_in xs) are;
       gaps = timed.gaps;
       dated = dated_all (reverse notes) bound xs timed;
       told = told;
     }
 
 -- At the end of a script, all its intervals have been reported, unless the sink refused an interval.
-pub tells_all_on : {E : Type 0} → OneOutcome → TellTheFlow → (config : Config) (notes : List Note) (tick bound : ℕ)
+pub tells_all_on : {E : Type 0} → OneOutcome → TellTheFlow → (base : World) (notes : List Note) (tick bound : ℕ)
     (is_changed : Bool) (stored new : List OpenInterval) (Told ToldNow ToldNext : List Entry → Type 0)
-    (sent : List Sent) (w : World) (result : Result (Unit {0}) E) → Run (start_of config) (events_in notes) sent w →
-    (h : KeepsOpen config notes tick is_changed stored Told) → TellsPast (open_flows w.gateway ∷ h.past) new ToldNow →
+    (sent : List Sent) (w : World) (result : Result (Unit {0}) E) → Run base (events_in notes) sent w →
+    (h : KeepsOpen base notes tick is_changed stored Told) → TellsPast (open_flows w.gateway ∷ h.past) new ToldNow →
     ((before : List Entry) → ToldNow before →
     OnOk result (Timed (reverse notes) bound ToldNext (before ++ map (entry_until None) new))) →
-    OnOk result (TellsAll config notes (λ _. ToldNext))
-tells_all_on one law config notes tick bound is_changed stored new Told ToldNow ToldNext sent w (Ok done) run h tells last =
-    tells_all one law config notes tick bound is_changed stored new Told ToldNow ToldNext sent w run h tells last
-tells_all_on one law config notes tick bound is_changed stored new Told ToldNow ToldNext sent w (Err error) run h tells last = tt
+    OnOk result (TellsAll base notes (λ _. ToldNext))
+tells_all_on one law base notes tick bound is_changed stored new Told ToldNow ToldNext sent w (Ok done) run h tells last =
+    tells_all one law base notes tick bound is_changed stored new Told ToldNow ToldNext sent w run h tells last
+tells_all_on one law base notes tick bound is_changed stored new Told ToldNow ToldNext sent w (Err error) run h tells last = tt
 
 -- `TellsAll` still holds if `P` is replaced by a `Q` that `P` implies.
-pub tells_weaker : (config : Config) (notes : List Note) (P Q : Extent → List Entry → Type 0) →
+pub tells_weaker : (base : World) (notes : List Note) (P Q : Extent → List Entry → Type 0) →
     ((xs : List Entry) → P (extent_of (reverse notes)) xs → Q (extent_of (reverse notes)) xs) →
-    TellsAll config notes P → TellsAll config notes Q
-tells_weaker config notes P Q more h = record {
+    TellsAll base notes P → TellsAll base notes Q
+tells_weaker base notes P Q more h = record {
   xs = h.xs;
   no_others = h.no_others;
   are = h.are;
@@ -182,12 +181,12 @@ tells_weaker config notes P Q more h = record {
 }
 
 -- If a script was followed to its end, the result holds for all its notes, unless the sink refused an interval.
-pub tells_followed : {A E : Type 0} (config : Config) (input rest : Option (List ℕ)) (state : CoreState)
+pub tells_followed : {A E : Type 0} (base : World) (input rest : Option (List ℕ)) (state : CoreState)
     (Follows : List Note → Type 0) (Holds : A → List Note → Type 0) (result : Result A E) →
-    IsFollowed config input rest state Follows →
-    ((notes : List Note) → HasRun config notes state → Follows notes → IfOk result (λ ended. Holds ended notes)) →
-    IfOk result (λ heard. (s : CoreState) × IsFollowed config input rest s (Holds heard))
-tells_followed config input rest state Follows Holds (Ok ended) h holds = (
+    IsFollowed base input rest state Follows →
+    ((notes : List Note) → HasRun base notes state → Follows notes → IfOk result (λ ended. Holds ended notes)) →
+    IfOk result (λ heard. (s : CoreState) × IsFollowed base input rest s (Holds heard))
+tells_followed base input rest state Follows Holds (Ok ended) h holds = (
   state,
   record {
     script = h.script;
@@ -198,7 +197,7 @@ tells_followed config input rest state Follows Holds (Ok ended) h holds = (
     follows = holds h.notes h.run h.follows;
   },
 )
-tells_followed config input rest state Follows Holds (Err error) h holds = tt
+tells_followed base input rest state Follows Holds (Err error) h holds = tt
 
 -- ## The state with dates and gaps
 
@@ -212,10 +211,10 @@ past_weaker past stored Told Next more h = record {
   told = more h.xs h.told;
 }
 
-open_weaker : (config : Config) (notes : List Note) (tick : ℕ) (is_changed : Bool) (stored : List OpenInterval)
+open_weaker : (base : World) (notes : List Note) (tick : ℕ) (is_changed : Bool) (stored : List OpenInterval)
     (Told Next : List Entry → Type 0) → ((xs : List Entry) → Told xs → Next xs) →
-    KeepsOpen config notes tick is_changed stored Told → KeepsOpen config notes tick is_changed stored Next
-open_weaker config notes tick is_changed stored Told Next more h = record {
+    KeepsOpen base notes tick is_changed stored Told → KeepsOpen base notes tick is_changed stored Next
+open_weaker base notes tick is_changed stored Told Next more h = record {
   past = h.past;
   now = h.now;
   are = h.are;
@@ -225,105 +224,105 @@ open_weaker config notes tick is_changed stored Told Next more h = record {
 }
 
 -- `KeepsHeard` holds if its parts hold for `older`, which consists of the notes in reverse order.
-heard_back : (config : Config) (notes : List Note) (older : List Note) (clock : Clock) (is_changed : Bool)
+heard_back : (base : World) (notes : List Note) (older : List Note) (clock : Clock) (is_changed : Bool)
     (stored : List OpenInterval) (Told : List Entry → Type 0) → reverse notes ≡ older → IsClock older clock →
     AreBegun older (tick_count older) stored →
-    KeepsOpen config notes clock.ticks is_changed stored (Timed older (tick_count older) Told) →
-    KeepsHeard config notes clock is_changed stored Told
-heard_back config notes older clock is_changed stored Told back is begun opens = record {
+    KeepsOpen base notes clock.ticks is_changed stored (Timed older (tick_count older) Told) →
+    KeepsHeard base notes clock is_changed stored Told
+heard_back base notes older clock is_changed stored Told back is begun opens = record {
   clock_is = subst (λ (l : List Note). IsClock l clock) (sym back) is;
   begun = subst (λ (l : List Note). AreBegun l (tick_count l) stored) (sym back) begun;
-  opens = subst (λ (l : List Note). KeepsOpen config notes clock.ticks is_changed stored (Timed l (tick_count l) Told))
+  opens = subst (λ (l : List Note). KeepsOpen base notes clock.ticks is_changed stored (Timed l (tick_count l) Told))
       (sym back) opens;
 }
 
-pub heard_start : (config : Config) (clock : Clock) (is_changed : Bool) (stored : List OpenInterval)
+pub heard_start : (base : World) (clock : Clock) (is_changed : Bool) (stored : List OpenInterval)
     (Told : List Entry → Type 0) → IsClock [] clock → clock.ticks ≡ 0 → is_changed ≡ true → stored ≡ [] → Told [] →
-    KeepsHeard config [] clock is_changed stored Told
-heard_start config clock is_changed stored Told is none changed empty told =
-    heard_back config [] [] clock is_changed stored Told refl is
+    KeepsHeard base [] clock is_changed stored Told
+heard_start base clock is_changed stored Told is none changed empty told =
+    heard_back base [] [] clock is_changed stored Told refl is
     (subst (AreBegun [] 0) (sym empty) (All-nil (λ x. IsBefore [] 0 x.first)))
-    (keeps_start config clock.ticks is_changed stored (Timed [] 0 Told) none changed empty (told, timed_start))
+    (keeps_start base clock.ticks is_changed stored (Timed [] 0 Told) none changed empty (told, timed_start))
 
-pub heard_comment : (config : Config) (notes : List Note) (line : List ℕ) (old new : Clock) (is_changed : Bool)
+pub heard_comment : (base : World) (notes : List Note) (line : List ℕ) (old new : Clock) (is_changed : Bool)
     (stored : List OpenInterval) (Told : List Entry → Type 0) → new.ticks ≡ old.ticks →
     None ≡ gap_of line (reverse notes) → IsClock (Comment line ∷ reverse notes) new →
-    KeepsHeard config notes old is_changed stored Told →
-    KeepsHeard config (notes ++ Comment line ∷ []) new is_changed stored Told
-heard_comment config notes line old new is_changed stored Told same none is h =
+    KeepsHeard base notes old is_changed stored Told →
+    KeepsHeard base (notes ++ Comment line ∷ []) new is_changed stored Told
+heard_comment base notes line old new is_changed stored Told same none is h =
     let older = reverse notes in
-    heard_back config (notes ++ Comment line ∷ []) (Comment line ∷ older) new is_changed stored Told
+    heard_back base (notes ++ Comment line ∷ []) (Comment line ∷ older) new is_changed stored Told
     (back_one notes (Comment line)) is (begun_note (Comment line) older stored h.begun)
-    (open_weaker config (notes ++ Comment line ∷ []) new.ticks is_changed stored (Timed older (tick_count older) Told)
+    (open_weaker base (notes ++ Comment line ∷ []) new.ticks is_changed stored (Timed older (tick_count older) Told)
     (Timed (Comment line ∷ older) (tick_count (Comment line ∷ older)) Told)
     (λ xs t. (t.0, timed_comment older line xs none t.1))
-    (keeps_comment config notes line old.ticks new.ticks is_changed stored (Timed older (tick_count older) Told) same
+    (keeps_comment base notes line old.ticks new.ticks is_changed stored (Timed older (tick_count older) Told) same
     h.opens))
 
 -- After a comment with a gap, `KeepsHeard` still holds, unless the sink refuses the gap.
-pub heard_gap_on : {E : Type 0} (config : Config) (notes : List Note) (line : List ℕ) (gap : Gap) (old new : Clock)
+pub heard_gap_on : {E : Type 0} (base : World) (notes : List Note) (line : List ℕ) (gap : Gap) (old new : Clock)
     (is_changed : Bool) (stored : List OpenInterval) (Told ToldNext : List Entry → Type 0)
     (result : Result (Unit {0}) E) → new.ticks ≡ old.ticks → Some gap ≡ gap_of line (reverse notes) →
     IsClock (Comment line ∷ reverse notes) new →
     ((before : List Entry) → Told before → OnOk result (ToldNext (before ++ entries.Gap gap ∷ []))) →
-    KeepsHeard config notes old is_changed stored Told →
-    OnOk result (KeepsHeard config (notes ++ Comment line ∷ []) new is_changed stored ToldNext)
-heard_gap_on config notes line gap old new is_changed stored Told ToldNext (Ok done) same some is tells h =
+    KeepsHeard base notes old is_changed stored Told →
+    OnOk result (KeepsHeard base (notes ++ Comment line ∷ []) new is_changed stored ToldNext)
+heard_gap_on base notes line gap old new is_changed stored Told ToldNext (Ok done) same some is tells h =
     let older = reverse notes in
-    heard_back config (notes ++ Comment line ∷ []) (Comment line ∷ older) new is_changed stored ToldNext
+    heard_back base (notes ++ Comment line ∷ []) (Comment line ∷ older) new is_changed stored ToldNext
     (back_one notes (Comment line)) is (begun_note (Comment line) older stored h.begun)
-    (keeps_gap config (notes ++ Comment line ∷ []) gap new.ticks is_changed stored (Timed older (tick_count older) Told)
+    (keeps_gap base (notes ++ Comment line ∷ []) gap new.ticks is_changed stored (Timed older (tick_count older) Told)
     (Timed (Comment line ∷ older) (tick_count (Comment line ∷ older)) ToldNext)
     (λ before t. (tells before t.0, timed_gap older line gap before some t.1))
-    (keeps_comment config notes line old.ticks new.ticks is_changed stored (Timed older (tick_count older) Told) same
+    (keeps_comment base notes line old.ticks new.ticks is_changed stored (Timed older (tick_count older) Told) same
     h.opens))
-heard_gap_on config notes line gap old new is_changed stored Told ToldNext (Err error) same some is tells h = tt
+heard_gap_on base notes line gap old new is_changed stored Told ToldNext (Err error) same some is tells h = tt
 
-pub heard_datagram : OneOutcome → OnlyControlChangesFlows → (config : Config) (notes : List Note) (event : Event)
+pub heard_datagram : OneOutcome → OnlyControlChangesFlows → (base : World) (notes : List Note) (event : Event)
     (old new : Clock) (is_changed will_change : Bool) (stored : List OpenInterval) (Told : List Entry → Type 0)
     (state : CoreState) → new.ticks ≡ old.ticks → (IsClock (reverse notes) old → IsClock (reverse notes) new) →
     event ≢ Tick → (will_change ≡ false → (is_control event ≡ false) × (is_changed ≡ false)) →
-    HasRun config (notes ++ Happened event ∷ []) state → KeepsHeard config notes old is_changed stored Told →
-    KeepsHeard config (notes ++ Happened event ∷ []) new will_change stored Told
-heard_datagram one only config notes event old new is_changed will_change stored Told state same keeps not changes run h =
+    HasRun base (notes ++ Happened event ∷ []) state → KeepsHeard base notes old is_changed stored Told →
+    KeepsHeard base (notes ++ Happened event ∷ []) new will_change stored Told
+heard_datagram one only base notes event old new is_changed will_change stored Told state same keeps not changes run h =
     let older = reverse notes in
-    heard_back config (notes ++ Happened event ∷ []) (Happened event ∷ older) new will_change stored Told
+    heard_back base (notes ++ Happened event ∷ []) (Happened event ∷ older) new will_change stored Told
     (back_one notes (Happened event)) (clock_datagram older event new not (keeps h.clock_is))
     (begun_note (Happened event) older stored h.begun)
-    (open_weaker config (notes ++ Happened event ∷ []) new.ticks will_change stored (Timed older (tick_count older) Told)
+    (open_weaker base (notes ++ Happened event ∷ []) new.ticks will_change stored (Timed older (tick_count older) Told)
     (Timed (Happened event ∷ older) (tick_count (Happened event ∷ older)) Told)
     (λ xs t. (t.0, timed_event older event xs t.1))
-    (keeps_datagram one only config notes event old.ticks new.ticks is_changed will_change stored
+    (keeps_datagram one only base notes event old.ticks new.ticks is_changed will_change stored
     (Timed older (tick_count older) Told) state same not changes run h.opens))
 
-pub heard_ticks : OneOutcome → OnlyControlChangesFlows → EqualMomentsTellNothing → (config : Config)
+pub heard_ticks : OneOutcome → OnlyControlChangesFlows → EqualMomentsTellNothing → (base : World)
     (notes : List Note) (old next : Clock) (count : ℕ) (is_changed will_change : Bool) (stored new : List OpenInterval)
     (Told ToldNext : List Entry → Type 0) (sent : List Sent) (w : World) → count ≢ 0 → next.ticks ≡ old.ticks + count →
-    IsClock (ticks_of count ++ reverse notes) next → Run (start_of config) (events_in notes) sent w →
-    (h : KeepsHeard config notes old is_changed stored Told) →
+    IsClock (ticks_of count ++ reverse notes) next → Run base (events_in notes) sent w →
+    (h : KeepsHeard base notes old is_changed stored Told) →
     TellsTimed (reverse notes) (tick_count (reverse notes) + 1) (open_flows w.gateway ∷ h.opens.past) new ToldNext →
-    KeepsHeard config (notes ++ ticks_of count) next will_change new ToldNext
-heard_ticks one only equal config notes old next zero is_changed will_change stored new Told ToldNext sent w some sum is run
+    KeepsHeard base (notes ++ ticks_of count) next will_change new ToldNext
+heard_ticks one only equal base notes old next zero is_changed will_change stored new Told ToldNext sent w some sum is run
     h tells = absurd (some refl)
-heard_ticks one only equal config notes old next (suc n) is_changed will_change stored new Told ToldNext sent w some sum is
+heard_ticks one only equal base notes old next (suc n) is_changed will_change stored new Told ToldNext sent w some sum is
     run h tells =
     let older = reverse notes in
     let later = ticks_of (suc n) ++ older in
-    heard_back config (notes ++ ticks_of (suc n)) later next will_change new ToldNext (back_ticks notes (suc n)) is
+    heard_back base (notes ++ ticks_of (suc n)) later next will_change new ToldNext (back_ticks notes (suc n)) is
     (begun_ticks n older new tells.begun)
-    (open_weaker config (notes ++ ticks_of (suc n)) next.ticks will_change new
+    (open_weaker base (notes ++ ticks_of (suc n)) next.ticks will_change new
     (Timed older (tick_count older + 1) ToldNext) (Timed later (tick_count later) ToldNext)
     (λ xs t. (t.0, timed_ticks n older xs t.1))
-    (keeps_some_ticks one only equal config notes old.ticks next.ticks (suc n) is_changed will_change stored new
+    (keeps_some_ticks one only equal base notes old.ticks next.ticks (suc n) is_changed will_change stored new
     (Timed older (tick_count older) Told) (Timed older (tick_count older + 1) ToldNext) sent w some sum run h.opens
     tells.tells))
 
-pub heard_no_tick : (config : Config) (notes : List Note) (clock : Clock) (count : ℕ) (is_changed : Bool)
+pub heard_no_tick : (base : World) (notes : List Note) (clock : Clock) (count : ℕ) (is_changed : Bool)
     (stored : List OpenInterval) (Told : List Entry → Type 0) → count ≡ 0 →
-    KeepsHeard config notes clock is_changed stored Told →
-    KeepsHeard config (notes ++ ticks_of count) clock is_changed stored Told
-heard_no_tick config notes clock count is_changed stored Told none h =
-    subst (λ (l : List Note). KeepsHeard config l clock is_changed stored Told)
+    KeepsHeard base notes clock is_changed stored Told →
+    KeepsHeard base (notes ++ ticks_of count) clock is_changed stored Told
+heard_no_tick base notes clock count is_changed stored Told none h =
+    subst (λ (l : List Note). KeepsHeard base l clock is_changed stored Told)
     (sym (append-nil notes) ∙ ap (λ (n : ℕ). notes ++ ticks_of n) (sym none)) h
 
 no_gaps : (end : Option Moment) (xs : List OpenInterval) → gaps_in (map (entry_until end) xs) ≡ []

@@ -2,13 +2,11 @@
 use Rattle.std.proofs.Common.{◌≡◌, ℕ, true, List, [], refl, sym, ap, subst, ◌∙◌}
 use Rattle.std.specs.Prelude.{count_by, reverse}
 use Rattle.mg_engine.specs.Flow.{flow}
-use Rattle.mg_engine.specs.declared.config.Config.{Config}
 use Rattle.mg_core.specs.declared.event.Event.{Event}
 use Rattle.mg_core.specs.Counting.{is_tick}
 use Rattle.mg_core.specs.ExceptReceived.{RtpChangesSpeechOnly}
 use Rattle.mg_core.specs.Headline.{WorldsAreConsistent}
-use Rattle.mg_core.specs.World.{World, start_of}
-use Rattle.mg_core.proofs.ReceivedLemmas.{agrees_itself}
+use Rattle.mg_core.specs.World.{World}
 use Rattle.mg_heard.specs.Intervals.{Interval, intervals}
 use Rattle.mg_heard.specs.Laws.{AreIntervals, EventsDetermineIntervals, IntervalsTellTheTruth, IsToldAt, NoPairIsToldTwice, RtpChangesNoInterval, TellsTheFlow}
 use Rattle.mg_heard.specs.Maximal.{IsOfPair, IsTellingOnce, LiesIn}
@@ -43,12 +41,12 @@ flow_from_told w moments n talker listener is told =
     ap (λ (t : ℕ). flow w.gateway t listener) (sym pair.0) ∙ ap (λ (l : ℕ). flow w.gateway y.flow.talker l) (sym pair.1)
     ∙ (open_in_world w moments n y is j lies).flows
 
-pub intervals_tell_the_flow : OneOutcome → (config : Config) (events : List Event) (ys : List Interval) →
-    AreIntervals config events ys → TellsTheFlow config events ys
-intervals_tell_the_flow one config events ys (moments, are, e) past future sent w talker listener split run tick =
+pub intervals_tell_the_flow : OneOutcome → (base : World) (events : List Event) (ys : List Interval) →
+    AreIntervals base events ys → TellsTheFlow base events ys
+intervals_tell_the_flow one base events ys (moments, are, e) past future sent w talker listener split run tick =
     let n = count_by is_tick past in
-    let is = moment_of one (start_of config) w past future sent moments run tick
-    (subst (λ (l : List Event). AreMoments (start_of config) l moments) split are) in (
+    let is = moment_of one base w past future sent moments run tick
+    (subst (λ (l : List Event). AreMoments base l moments) split are) in (
       λ flows. subst (λ (l : List Interval). IsToldAt n talker listener l) (sym e)
           (told_in_world w moments n talker listener is flows),
       λ told. flow_from_told w moments n talker listener is
@@ -56,25 +54,22 @@ intervals_tell_the_flow one config events ys (moments, are, e) past future sent 
     )
 
 pub intervals_tell_the_truth : OneOutcome → IntervalsTellTheTruth
-intervals_tell_the_truth one config past future sent w ys y (moments, are, e) run tick told lies =
-    let is = moment_of one (start_of config) w past future sent moments run tick are in
+intervals_tell_the_truth one base past future sent w ys y (moments, are, e) run tick told lies =
+    let is = moment_of one base w past future sent moments run tick are in
     (open_in_world w moments (count_by is_tick past) y is
     (subst (λ (l : List Interval). In y l) e (in_from_at y ys told)) lies).is
 
 pub events_determine_intervals : OneOutcome → EventsDetermineIntervals
-events_determine_intervals one config events xs ys (moments, are, e) (others, too, k) =
+events_determine_intervals one base events xs ys (moments, are, e) (others, too, k) =
     e ∙ ap (λ (l : List (List OpenFlow)). intervals (reverse l))
-    (same_moments one (start_of config) events moments others are too) ∙ sym k
+    (same_moments one base events moments others are too) ∙ sym k
 
 pub no_pair_is_told_twice : WorldsAreConsistent → NoPairIsToldTwice
-no_pair_is_told_twice consistent config events ys start (moments, are, e) =
-    let apart = moments_apart consistent config start [] events [] (start_of config) moments (refl, refl) are in
+no_pair_is_told_twice consistent base events ys start (moments, are, e) =
+    let apart = moments_apart consistent base start [] events [] base moments (refl, refl) are in
     all_from_pairs IsTellingOnce ys (subst (λ (l : List Interval). Pairs IsTellingOnce l) (sym e)
     (intervals_once (reverse moments) (distinct_back moments apart)))
 
 pub rtp_changes_no_interval : RtpChangesSpeechOnly → RtpChangesNoInterval
-rtp_changes_no_interval agree config events ys (moments, are, e) = (
-  moments,
-  moments_without agree (start_of config) (start_of config) events moments (agrees_itself (start_of config)) are,
-  e,
-)
+rtp_changes_no_interval agree a b events ys same (moments, are, e) =
+    (moments, moments_without agree a b events moments same are, e)

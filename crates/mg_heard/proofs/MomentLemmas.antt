@@ -1,21 +1,23 @@
 -- The moments of a history.
 use Rattle.std.proofs.Common.{◌≡◌, ℕ, ◌+◌, ◌<◌, ◌≤◌, suc, zero, Bool, true, false, cond, List, [], ◌∷◌, ◌++◌, length, get_or, map, refl, sym, ap, subst, ◌∙◌, inl, inr, arith}
-use Rattle.std.specs.Prelude.{count_by, reverse}
-use Rattle.std.proofs.lemmas.Bool.{cases_lt, true≢false}
+use Rattle.std.specs.Prelude.{count_by, nat_lt, not, reverse}
+use Rattle.std.proofs.lemmas.Bool.{cases_lt, ltb-true, true≢false}
 use Rattle.std.proofs.lemmas.List.{get_or_default, reverse-append}
 use Rattle.std.proofs.lemmas.List.Sums.{sum_by-cons}
+use Rattle.mg_words.specs.Limits.{message_limit}
+use Rattle.mg_words.specs.declared.peer.Peer.{Peer}
 use Rattle.mg_rooms.specs.Consistent.{IsConsistent}
-use Rattle.mg_engine.specs.declared.config.Config.{Config}
 use Rattle.mg_core.specs.Answer.{answered}
 use Rattle.mg_core.specs.Counting.{is_tick}
-use Rattle.mg_core.specs.ExceptReceived.{AgreeExceptReceived, RtpChangesSpeechOnly, without_rtp}
-use Rattle.mg_core.specs.Headline.{IsStart, WorldsAreConsistent}
+use Rattle.mg_core.specs.ExceptReceived.{AgreeExceptReceived, RtpChangesSpeechOnly, lasting}
+use Rattle.mg_core.specs.Base.{IsBase}
+use Rattle.mg_core.specs.Headline.{WorldsAreConsistent}
 use Rattle.mg_core.specs.Step.{Packet, Run, Sent, Step, answer_to}
-use Rattle.mg_core.specs.World.{World, packets_of, start_of, with_control, world_after_tick}
+use Rattle.mg_core.specs.World.{World, packets_of, with_control, world_after_tick}
 use Rattle.mg_core.specs.declared.event.Event.{Event}
 use Rattle.mg_core.specs.declared.event.Event.TheVariants.{Control, Media, Tick}
 use Rattle.mg_core.proofs.HeadlineLemmas.{one_event}
-use Rattle.mg_core.proofs.ReceivedLemmas.{agrees_itself}
+use Rattle.mg_core.proofs.ReceivedLemmas.{agrees_itself, oversized_agrees}
 use Rattle.mg_core.proofs.RunLemmas.{run_both}
 use Rattle.mg_heard.specs.Laws.{IsAtTick}
 use Rattle.mg_heard.specs.aids.Changes.{OnlyControlChangesFlows, OnlyControlChangesTerminations}
@@ -99,17 +101,17 @@ moment_apart w others true h k flows (inl e) =
     subst (λ (l : List OpenFlow). Pairs AreApart l) (sym e) (flows_apart w.gateway h)
 moment_apart w others true h k flows (inr i) = k flows i
 
-pub moments_apart : WorldsAreConsistent → (config : Config) → IsStart config → (before events : List Event)
-    (sent : List Sent) (w : World) (moments : List (List OpenFlow)) → Run (start_of config) before sent w →
+pub moments_apart : WorldsAreConsistent → (base : World) → IsBase base → (before events : List Event)
+    (sent : List Sent) (w : World) (moments : List (List OpenFlow)) → Run base before sent w →
     AreMoments w events moments → AllApart moments
-moments_apart consistent config start before [] sent w moments run e =
+moments_apart consistent base start before [] sent w moments run e =
     subst (λ (l : List (List OpenFlow)). AllApart l) (sym e)
-    (moment_apart w [] true (consistent config before sent w start run) (λ flows i. absurd i))
-moments_apart consistent config start before (event ∷ events) sent w moments run (first, next, others, step, tail, e) =
-    let further = run_both (start_of config) w next before (event ∷ []) sent first run (one_event w next event first step) in
+    (moment_apart w [] true (consistent base before sent w start run) (λ flows i. absurd i))
+moments_apart consistent base start before (event ∷ events) sent w moments run (first, next, others, step, tail, e) =
+    let further = run_both base w next before (event ∷ []) sent first run (one_event w next event first step) in
     subst (λ (l : List (List OpenFlow)). AllApart l) (sym e)
-    (moment_apart w others (is_tick event) (consistent config before sent w start run)
-    (moments_apart consistent config start (before ++ event ∷ []) events (sent ++ first) next others further tail))
+    (moment_apart w others (is_tick event) (consistent base before sent w start run)
+    (moments_apart consistent base start (before ++ event ∷ []) events (sent ++ first) next others further tail))
 
 in_back : (x : List OpenFlow) (xs : List (List OpenFlow)) → In x (reverse xs) → In x xs
 in_back x [] h = h
@@ -126,26 +128,45 @@ distinct (flows ∷ older) h = (h flows (inl refl), distinct older (λ l i. h l 
 pub distinct_back : (moments : List (List OpenFlow)) → AllApart moments → AreDistinct (reverse moments)
 distinct_back moments h = distinct (reverse moments) (λ l i. h l (in_back l moments i))
 
--- ## Moments without RTP datagrams
+-- ## Moments of the lasting events
 
 same_flows : (a b : World) → AgreeExceptReceived a b → open_flows a.gateway ≡ open_flows b.gateway
 same_flows a b h = λ i. open_flows (record a.gateway { rooms = h.rooms i; edits = h.edits i })
 
-pub moments_without : RtpChangesSpeechOnly → (a b : World) (events : List Event) (moments : List (List OpenFlow)) →
-    AgreeExceptReceived a b → AreMoments a events moments → AreMoments b (without_rtp events) moments
-moments_without agree a b [] moments h e = e ∙ ap (λ (l : List OpenFlow). l ∷ []) (same_flows a b h)
-moments_without agree a b (Control source bytes ∷ events) moments h (sent, next, others, step, tail, e) =
+abbrev SameMoments : (a b : World) (events : List Event) → Type 0
+SameMoments a b events = (moments : List (List OpenFlow)) → AgreeExceptReceived a b → AreMoments a events moments →
+    AreMoments b (lasting events) moments
+
+-- A control datagram, which only the first world receives if it is oversized.
+over_control : RtpChangesSpeechOnly → (a b : World) (source : Peer) (bytes : List ℕ) (events : List Event) →
+    ((v w : World) → SameMoments v w events) → (is_big : Bool) → nat_lt message_limit (length bytes) ≡ is_big →
+    (moments : List (List OpenFlow)) → AgreeExceptReceived a b → AreMoments a (Control source bytes ∷ events) moments →
+    AreMoments b (cond (not is_big) (Control source bytes ∷ lasting events) (lasting events)) moments
+over_control agree a b source bytes events more true big moments h (sent, next, others, step, tail, e) =
+    let long = ltb-true message_limit (length bytes) big in
+    subst (λ (l : List (List OpenFlow)). AreMoments b (lasting events) l) (sym e)
+    (more next b others (oversized_agrees a b next source bytes sent long h step) tail)
+over_control agree a b source bytes events more false big moments h (sent, next, others, step, tail, e) =
     let (answer, (reading, is, answers), sends) = step in
     let p = answered bytes reading (with_control b) in
     let too : Step b (Control source bytes) (answer_to source p.0) p.1 = (p.0, (reading, is, refl), refl) in
-    let same = agree a b next p.1 (Control source bytes ∷ []) sent (answer_to source p.0) h
-    (one_event a next (Control source bytes) sent step)
+    let run = subst
+    (λ (k : Bool). Run b (cond (not k) (Control source bytes ∷ []) []) (answer_to source p.0) p.1) (sym big)
     (one_event b p.1 (Control source bytes) (answer_to source p.0) too) in
-    (answer_to source p.0, p.1, others, too, moments_without agree next p.1 events others same tail, e)
+    let same = agree a b next p.1 (Control source bytes ∷ []) sent (answer_to source p.0) h
+    (one_event a next (Control source bytes) sent step) run in
+    (answer_to source p.0, p.1, others, too, more next p.1 others same tail, e)
+
+pub moments_without : RtpChangesSpeechOnly → (a b : World) (events : List Event) (moments : List (List OpenFlow)) →
+    AgreeExceptReceived a b → AreMoments a events moments → AreMoments b (lasting events) moments
+moments_without agree a b [] moments h e = e ∙ ap (λ (l : List OpenFlow). l ∷ []) (same_flows a b h)
+moments_without agree a b (Control source bytes ∷ events) moments h are =
+    over_control agree a b source bytes events (λ v w. moments_without agree v w events)
+    (nat_lt message_limit (length bytes)) refl moments h are
 moments_without agree a b (Media port source bytes ∷ events) moments h (sent, next, others, step, tail, e) =
     let same = agree a b next b (Media port source bytes ∷ []) sent [] h
     (one_event a next (Media port source bytes) sent step) (refl, refl) in
-    subst (λ (l : List (List OpenFlow)). AreMoments b (without_rtp events) l) (sym e)
+    subst (λ (l : List (List OpenFlow)). AreMoments b (lasting events) l) (sym e)
     (moments_without agree next b events others same tail)
 moments_without agree a b (Tick ∷ events) moments h (sent, next, others, step, tail, e) =
     let too : Step b Tick (map Packet (packets_of b)) (world_after_tick b) = (refl, refl) in

@@ -2,10 +2,10 @@
 use Rattle.std.proofs.Common.{◌≡◌, ℕ, false, List, [], Option, Result, Ok, Err, OnOk, filter, is_err, refl, reverse, subst}
 use Rattle.std.specs.Io.KnownBytes.{Appends}
 use Rattle.std.proofs.KnownBytes.{Appends-nil, Appends-trans}
-use Rattle.mg_engine.specs.declared.config.Config.{Config}
 use Rattle.mg_core.specs.declared.state.CoreState.{CoreState}
 use Rattle.mg_core.specs.Note.{Note}
 use Rattle.mg_core.specs.Follow.{IsFollowed}
+use Rattle.mg_core.specs.World.{World}
 use Rattle.mg_heard.specs.declared.entry.Entry.{Entry}
 use Rattle.mg_heard.specs.declared.extent.Extent.{Extent}
 use Rattle.mg_heard.specs.declared.style.Style.{Style}
@@ -44,11 +44,11 @@ reported_whole style query old start now xs formed asked begins h =
     )
 
 -- If `P` implies `Q`, a script that was followed with `P` was also followed with `Q`.
-pub reported_all : (config : Config) (input rest : Option (List ℕ)) (A : List Note → Type 0)
+pub reported_all : (base : World) (input rest : Option (List ℕ)) (A : List Note → Type 0)
     (P Q : Extent → List Entry → Type 0) → ((extent : Extent) (xs : List Entry) → P extent xs → Q extent xs) →
-    ((state : CoreState) × IsFollowed config input rest state (λ notes. A notes × TellsAll config notes P)) →
-    (state : CoreState) × IsFollowed config input rest state (λ notes. A notes × TellsAll config notes Q)
-reported_all config input rest A P Q more (state, h) = (
+    ((state : CoreState) × IsFollowed base input rest state (λ notes. A notes × TellsAll base notes P)) →
+    (state : CoreState) × IsFollowed base input rest state (λ notes. A notes × TellsAll base notes Q)
+reported_all base input rest A P Q more (state, h) = (
   state,
   record {
     script = h.script;
@@ -56,6 +56,6 @@ reported_all config input rest A P Q more (state, h) = (
     notes = h.notes;
     are = h.are;
     run = h.run;
-    follows = (h.follows.0, tells_weaker config h.notes P Q (more (extent_of (reverse h.notes))) h.follows.1);
+    follows = (h.follows.0, tells_weaker base h.notes P Q (more (extent_of (reverse h.notes))) h.follows.1);
   },
 )

@@ -5,7 +5,6 @@ use Rattle.std.specs.List.{AllZip}
 use Rattle.std.specs.Option.{option_map, option_map_or, option_or}
 use Rattle.std.proofs.lemmas.Bool.{true≢false}
 use Rattle.std.proofs.lemmas.List.{append-nil, at_drop_more, drop_all, length-replicate, length-reverse, reverse-append}
-use Rattle.mg_engine.specs.declared.config.Config.{Config}
 use Rattle.mg_core.specs.declared.event.Event.{Event}
 use Rattle.mg_core.specs.declared.event.Event.TheVariants.{Tick}
 use Rattle.mg_core.specs.declared.state.CoreState.{CoreState}
@@ -14,7 +13,7 @@ use Rattle.mg_core.specs.Follow.{HasRun, ticks_of}
 use Rattle.mg_core.specs.aids.Following.{GoesOn, IsFollowedUntil}
 use Rattle.mg_core.specs.Note.{Note, Comment, Happened, events_in}
 use Rattle.mg_core.specs.Step.{Run, Sent}
-use Rattle.mg_core.specs.World.{World, start_of}
+use Rattle.mg_core.specs.World.{World}
 use Rattle.mg_core.specs.aids.Stands.{StandsFor}
 use Rattle.mg_heard.specs.declared.moment.Moment.{Moment}
 use Rattle.mg_heard.specs.declared.missing.Missing.{Missing}
@@ -113,48 +112,48 @@ none_before old (Some v) tick o is none = absurd (cc none)
 
 -- ## Notes
 
-pub watch_starts : (rules : List Rule) (config : Config) (tick : ℕ) (is_changed : Bool) (violation : Option Violation) →
-    tick ≡ 0 → is_changed ≡ true → violation ≡ None → KeepsRules rules config [] tick is_changed violation
-watch_starts rules config tick is_changed violation zero_is changed none = record {
+pub watch_starts : (rules : List Rule) (base : World) (tick : ℕ) (is_changed : Bool) (violation : Option Violation) →
+    tick ≡ 0 → is_changed ≡ true → violation ≡ None → KeepsRules rules base [] tick is_changed violation
+watch_starts rules base tick is_changed violation zero_is changed none = record {
   past = [];
-  now = open_flows (start_of config).gateway;
+  now = open_flows base.gateway;
   are = refl;
   first = ap seen none;
   count = λ e. zero_is;
   same = λ e f. absurd (true≢false (sym changed ∙ e));
 }
 
-pub watches_comment : (rules : List Rule) (config : Config) (notes : List Note) (line : List ℕ) (tick next : ℕ)
+pub watches_comment : (rules : List Rule) (base : World) (notes : List Note) (line : List ℕ) (tick next : ℕ)
     (is_changed : Bool) (violation : Option Violation) → next ≡ tick →
-    KeepsRules rules config notes tick is_changed violation →
-    KeepsRules rules config (notes ++ Comment line ∷ []) next is_changed violation
-watches_comment rules config notes line tick next is_changed violation e h = record {
+    KeepsRules rules base notes tick is_changed violation →
+    KeepsRules rules base (notes ++ Comment line ∷ []) next is_changed violation
+watches_comment rules base notes line tick next is_changed violation e h = record {
   past = h.past;
   now = h.now;
-  are = subst (λ (l : List Event). AreMoments (start_of config) l (reverse (h.now ∷ h.past)))
+  are = subst (λ (l : List Event). AreMoments base l (reverse (h.now ∷ h.past)))
       (sym (events_in_both notes (Comment line ∷ []) ∙ append-nil (events_in notes))) h.are;
   first = h.first;
   count = λ none. e ∙ h.count none;
   same = h.same;
 }
 
-pub watches_datagram : OneOutcome → OnlyControlChangesFlows → (rules : List Rule) (config : Config) (notes : List Note)
+pub watches_datagram : OneOutcome → OnlyControlChangesFlows → (rules : List Rule) (base : World) (notes : List Note)
     (event : Event) (tick next : ℕ) (is_changed will_change : Bool) (violation : Option Violation) (state : CoreState) →
     next ≡ tick → event ≢ Tick →
     (will_change ≡ false → (is_control event ≡ false) × (is_changed ≡ false)) →
-    HasRun config (notes ++ Happened event ∷ []) state → KeepsRules rules config notes tick is_changed violation →
-    KeepsRules rules config (notes ++ Happened event ∷ []) next will_change violation
-watches_datagram one only rules config notes event tick next is_changed will_change violation state same not changes (sent, w, (run, stands)) h =
+    HasRun base (notes ++ Happened event ∷ []) state → KeepsRules rules base notes tick is_changed violation →
+    KeepsRules rules base (notes ++ Happened event ∷ []) next will_change violation
+watches_datagram one only rules base notes event tick next is_changed will_change violation state same not changes (sent, w, (run, stands)) h =
     let all = events_in_both notes (Happened event ∷ []) in
-    let s = split (start_of config) w (events_in notes) event sent
-    (subst (λ (l : List Event). Run (start_of config) l sent w) all run) in
-    let e = extends one (start_of config) s.mid (events_in notes) (event ∷ []) s.before h.now h.past
+    let s = split base w (events_in notes) event sent
+    (subst (λ (l : List Event). Run base l sent w) all run) in
+    let e = extends one base s.mid (events_in notes) (event ∷ []) s.before h.now h.past
     (open_flows w.gateway ∷ []) s.run h.are (one_moment s.mid w event s.sent not s.step) in
     record {
       past = h.past;
       now = open_flows w.gateway;
-      are = subst (λ (l : List Event). AreMoments (start_of config) l (reverse (open_flows w.gateway ∷ h.past))) (sym all)
-          (subst (λ (l : List (List OpenFlow)). AreMoments (start_of config) (events_in notes ++ event ∷ []) l)
+      are = subst (λ (l : List Event). AreMoments base l (reverse (open_flows w.gateway ∷ h.past))) (sym all)
+          (subst (λ (l : List (List OpenFlow)). AreMoments base (events_in notes ++ event ∷ []) l)
           (sym (reverse-append (open_flows w.gateway ∷ []) h.past)) e.are);
       first = h.first;
       count = λ none. same ∙ h.count none;
@@ -163,21 +162,21 @@ watches_datagram one only rules config notes event tick next is_changed will_cha
     }
 
 -- The open flows in `KeepsRules` are those of the world after the notes.
-pub watched_now : OneOutcome → (rules : List Rule) (config : Config) (notes : List Note) (tick : ℕ) (is_changed : Bool)
-    (violation : Option Violation) (sent : List Sent) (w : World) → Run (start_of config) (events_in notes) sent w →
-    (h : KeepsRules rules config notes tick is_changed violation) → h.now ≡ open_flows w.gateway
-watched_now one rules config notes tick is_changed violation sent w run h =
-    (extends one (start_of config) w (events_in notes) [] sent h.now h.past (open_flows w.gateway ∷ []) run h.are refl).is
+pub watched_now : OneOutcome → (rules : List Rule) (base : World) (notes : List Note) (tick : ℕ) (is_changed : Bool)
+    (violation : Option Violation) (sent : List Sent) (w : World) → Run base (events_in notes) sent w →
+    (h : KeepsRules rules base notes tick is_changed violation) → h.now ≡ open_flows w.gateway
+watched_now one rules base notes tick is_changed violation sent w run h =
+    (extends one base w (events_in notes) [] sent h.now h.past (open_flows w.gateway ∷ []) run h.are refl).is
 
 -- After the rules are compared with the open flows, the watch has the first violation up to this moment.
-pub compared : OneOutcome → (rules : List Rule) (config : Config) (notes : List Note) (tick : ℕ) (is_changed : Bool)
+pub compared : OneOutcome → (rules : List Rule) (base : World) (notes : List Note) (tick : ℕ) (is_changed : Bool)
     (old new : Option Violation) (sent : List Sent) (w : World) (others : List Rule) → others ≡ rules →
-    Run (start_of config) (events_in notes) sent w → KeepsRules rules config notes tick is_changed old →
+    Run base (events_in notes) sent w → KeepsRules rules base notes tick is_changed old →
     ((is_changed ≡ false → old ≡ None → forbidden_in others (open_flows w.gateway) ≡ None) →
     seen new ≡ option_or (seen old) (forbidden_at tick others (open_flows w.gateway))) →
     seen new ≡ option_or (seen old) (forbidden_at tick rules (open_flows w.gateway))
-compared one rules config notes tick is_changed old new sent w others same run h found =
-    let now = watched_now one rules config notes tick is_changed old sent w run h in
+compared one rules base notes tick is_changed old new sent w others same run h found =
+    let now = watched_now one rules base notes tick is_changed old sent w run h in
     found (λ e none. ap (λ (l : List Rule). forbidden_in l (open_flows w.gateway)) same
     ∙ ap (forbidden_in rules) (sym now) ∙ h.same e none)
     ∙ ap (λ (l : List Rule). option_or (seen old) (forbidden_at tick l (open_flows w.gateway))) same
@@ -196,15 +195,15 @@ first_more rules old new tick n past flows first count is =
     (sym (zero_plus (length (reverse past))))
     ∙ sym (first_both rules 0 (reverse past) (replicate (suc n) flows))
 
-watches_ticks : OneOutcome → OnlyControlChangesFlows → (rules : List Rule) (config : Config) (notes : List Note)
+watches_ticks : OneOutcome → OnlyControlChangesFlows → (rules : List Rule) (base : World) (notes : List Note)
     (tick next n : ℕ) (is_changed will_change : Bool) (old new : Option Violation) (sent : List Sent) (w : World) →
-    (new ≡ None → next ≡ tick + suc n) → Run (start_of config) (events_in notes) sent w →
-    KeepsRules rules config notes tick is_changed old →
+    (new ≡ None → next ≡ tick + suc n) → Run base (events_in notes) sent w →
+    KeepsRules rules base notes tick is_changed old →
     seen new ≡ option_or (seen old) (forbidden_at tick rules (open_flows w.gateway)) →
-    KeepsRules rules config (notes ++ ticks_of (suc n)) next will_change new
-watches_ticks one only rules config notes tick next n is_changed will_change old new sent w sum run h is =
+    KeepsRules rules base (notes ++ ticks_of (suc n)) next will_change new
+watches_ticks one only rules base notes tick next n is_changed will_change old new sent w sum run h is =
     let flows = open_flows w.gateway in
-    let e = extends one (start_of config) w (events_in notes) (replicate (suc n) Tick) sent h.now h.past
+    let e = extends one base w (events_in notes) (replicate (suc n) Tick) sent h.now h.past
     (replicate (suc n) flows ++ flows ∷ []) run h.are (tick_moments only (suc n) w flows refl) in
     let back : reverse (replicate (suc n) flows ++ h.past) ≡ reverse h.past ++ replicate (suc n) flows =
     reverse-append (replicate (suc n) flows) h.past
@@ -212,9 +211,9 @@ watches_ticks one only rules config notes tick next n is_changed will_change old
     record {
       past = replicate (suc n) flows ++ h.past;
       now = flows;
-      are = subst (λ (l : List Event). AreMoments (start_of config) l (reverse (flows ∷ (replicate (suc n) flows ++ h.past))))
+      are = subst (λ (l : List Event). AreMoments base l (reverse (flows ∷ (replicate (suc n) flows ++ h.past))))
           (sym (events_with_ticks notes (suc n)))
-          (subst (λ (l : List (List OpenFlow)). AreMoments (start_of config) (events_in notes ++ replicate (suc n) Tick) l)
+          (subst (λ (l : List (List OpenFlow)). AreMoments base (events_in notes ++ replicate (suc n) Tick) l)
           (back_to_front (suc n) flows h.past) e.are);
       first = first_more rules old new tick n h.past flows h.first h.count is
           ∙ ap (λ (l : List (List OpenFlow)). first_forbidden rules 0 l) (sym back);
@@ -225,22 +224,22 @@ watches_ticks one only rules config notes tick next n is_changed will_change old
       same = λ k none. (none_before old new tick (forbidden_in rules flows) is none).1;
     }
 
-pub watches_some_ticks : OneOutcome → OnlyControlChangesFlows → (rules : List Rule) (config : Config) (notes : List Note)
+pub watches_some_ticks : OneOutcome → OnlyControlChangesFlows → (rules : List Rule) (base : World) (notes : List Note)
     (tick next count : ℕ) (is_changed will_change : Bool) (old new : Option Violation) (sent : List Sent) (w : World) →
-    count ≢ 0 → (new ≡ None → next ≡ tick + count) → Run (start_of config) (events_in notes) sent w →
-    KeepsRules rules config notes tick is_changed old →
+    count ≢ 0 → (new ≡ None → next ≡ tick + count) → Run base (events_in notes) sent w →
+    KeepsRules rules base notes tick is_changed old →
     seen new ≡ option_or (seen old) (forbidden_at tick rules (open_flows w.gateway)) →
-    KeepsRules rules config (notes ++ ticks_of count) next will_change new
-watches_some_ticks one only rules config notes tick next zero is_changed will_change old new sent w some sum run h is =
+    KeepsRules rules base (notes ++ ticks_of count) next will_change new
+watches_some_ticks one only rules base notes tick next zero is_changed will_change old new sent w some sum run h is =
     absurd (some refl)
-watches_some_ticks one only rules config notes tick next (suc n) is_changed will_change old new sent w some sum run h is =
-    watches_ticks one only rules config notes tick next n is_changed will_change old new sent w sum run h is
+watches_some_ticks one only rules base notes tick next (suc n) is_changed will_change old new sent w some sum run h is =
+    watches_ticks one only rules base notes tick next n is_changed will_change old new sent w sum run h is
 
-pub watches_no_tick : (rules : List Rule) (config : Config) (notes : List Note) (tick count : ℕ) (is_changed : Bool)
-    (violation : Option Violation) → count ≡ 0 → KeepsRules rules config notes tick is_changed violation →
-    KeepsRules rules config (notes ++ ticks_of count) tick is_changed violation
-watches_no_tick rules config notes tick count is_changed violation none h =
-    subst (λ (l : List Note). KeepsRules rules config l tick is_changed violation)
+pub watches_no_tick : (rules : List Rule) (base : World) (notes : List Note) (tick count : ℕ) (is_changed : Bool)
+    (violation : Option Violation) → count ≡ 0 → KeepsRules rules base notes tick is_changed violation →
+    KeepsRules rules base (notes ++ ticks_of count) tick is_changed violation
+watches_no_tick rules base notes tick count is_changed violation none h =
+    subst (λ (l : List Note). KeepsRules rules base l tick is_changed violation)
     (sym (append-nil notes) ∙ ap (λ (n : ℕ). notes ++ ticks_of n) (sym none)) h
 
 -- ## The end of a script
@@ -261,50 +260,50 @@ was_some true ended left until = refl
 was_some false ended left until = absurd (true≢false (sym (until refl) ∙ left))
 
 -- The watch has followed these notes.
-abbrev pub Watches : List Rule → Config → Watch → List Note → Type 0
-Watches rules config w notes =
-    (w.rules.now ≡ rules) × KeepsRules rules config notes w.clock.ticks w.is_changed w.violation
+abbrev pub Watches : List Rule → World → Watch → List Note → Type 0
+Watches rules base w notes =
+    (w.rules.now ≡ rules) × KeepsRules rules base notes w.clock.ticks w.is_changed w.violation
 
 nothing_found : (o : Option Violation) → is_some o ≡ false → None ≡ seen o
 nothing_found None none = refl
 nothing_found (Some v) none = absurd (true≢false none)
 
-is_kept : {F : Type 0} (view : F → Watch) (Also : F → List Note → Type 0) (rules : List Rule) (config : Config)
+is_kept : {F : Type 0} (view : F → Watch) (Also : F → List Note → Type 0) (rules : List Rule) (base : World)
     (text : List ℕ) → GoesOn (λ (f : F). is_some (view f).violation)
-    (λ (f : F) (notes : List Note). Watches rules config (view f) notes × Also f notes) text → IsKept rules config text
-is_kept view Also rules config text g =
+    (λ (f : F) (notes : List Note). Watches rules base (view f) notes × Also f notes) text → IsKept rules base text
+is_kept view Also rules base text g =
     let k = g.follows.0.1 in
     record {
       notes = g.notes;
       are = g.are;
       before = reverse k.past;
       now = k.now;
-      are_moments = subst (λ (l : List (List OpenFlow)). AreMoments (start_of config) (events_in g.notes) l)
+      are_moments = subst (λ (l : List (List OpenFlow)). AreMoments base (events_in g.notes) l)
           (reverse-append (k.now ∷ []) k.past) k.are;
       none = sym (nothing_found (view g.follower).violation g.undone ∙ k.first);
     }
 
 -- A script was watched if it was followed by a follower that contains a watch and also knows who is missing.
 pub is_watched : {F : Type 0} (last : F) (view : F → Watch) (Also : F → List Note → Type 0) → OneOutcome →
-    (rules : List Rule) (config : Config) (input rest : Option (List ℕ)) (state : CoreState) (new : Option Violation)
-    (missing : List Missing) → IsFollowedUntil config input rest state (λ (f : F). is_some (view f).violation)
-    (λ (f : F) (notes : List Note). Watches rules config (view f) notes × Also f notes) last →
+    (rules : List Rule) (base : World) (input rest : Option (List ℕ)) (state : CoreState) (new : Option Violation)
+    (missing : List Missing) → IsFollowedUntil base input rest state (λ (f : F). is_some (view f).violation)
+    (λ (f : F) (notes : List Note). Watches rules base (view f) notes × Also f notes) last →
     ((w : World) → StandsFor state w →
     ((view last).is_changed ≡ false → (view last).violation ≡ None →
     forbidden_in (view last).rules.now (open_flows w.gateway) ≡ None) →
     seen new ≡ option_or (seen (view last).violation)
     (forbidden_at (view last).clock.ticks (view last).rules.now (open_flows w.gateway))) →
     ((notes : List Note) → Also last notes →
-    AllZip (λ rule m. AreMissing config (events_in notes) rule.talker rule.listener m) rules missing) →
-    IsWatched rules config input rest new missing
-is_watched last_one view Also one rules config input rest state new missing h compares absent =
+    AllZip (λ rule m. AreMissing base (events_in notes) rule.talker rule.listener m) rules missing) →
+    IsWatched rules base input rest new missing
+is_watched last_one view Also one rules base input rest state new missing h compares absent =
     let last = view last_one in
     let (sent, w, (run, stands)) = h.run in
     let (same, k) = h.follows.0 in
     let tick = last.clock.ticks in
     let old = last.violation in
-    let now = watched_now one rules config h.notes tick last.is_changed old sent w run k in
-    let is = compared one rules config h.notes tick last.is_changed old new sent w last.rules.now same run k
+    let now = watched_now one rules base h.notes tick last.is_changed old sent w run k in
+    let is = compared one rules base h.notes tick last.is_changed old new sent w last.rules.now same run k
     (compares w stands) in
     let all : reverse (k.now ∷ k.past) ≡ reverse k.past ++ replicate 1 (open_flows w.gateway) =
     reverse-append (k.now ∷ []) k.past ∙ ap (λ (l : List OpenFlow). reverse k.past ++ l ∷ []) now in
@@ -312,7 +311,7 @@ is_watched last_one view Also one rules config input rest state new missing h co
       front = h.front;
       piece = h.piece;
       size = h.size;
-      prompt = elim h.goes_on [ inl none ↦ inl none | inr on ↦ inr (is_kept view Also rules config h.front on) ];
+      prompt = elim h.goes_on [ inl none ↦ inl none | inr on ↦ inr (is_kept view Also rules base h.front on) ];
       ended = h.ended;
       read = h.read;
       notes = h.notes;

@@ -1,31 +1,30 @@
 -- The intervals say exactly who could hear whom, and report nothing twice.
 use Rattle.std.specs.Prelude.{◌≡◌, ◌↔◌, ℕ, true, List, [], ◌∷◌, ◌++◌, AllPairs, Any, Contains}
 use Rattle.std.specs.Prelude.{count_by, reverse}
-use Rattle.mg_engine.specs.declared.config.Config.{Config}
 use Rattle.mg_engine.specs.Flow.{flow}
 use Rattle.mg_core.specs.declared.event.Event.{Event}
 use Rattle.mg_core.specs.Counting.{is_tick}
-use Rattle.mg_core.specs.ExceptReceived.{without_rtp}
-use Rattle.mg_core.specs.Headline.{IsStart}
+use Rattle.mg_core.specs.ExceptReceived.{AgreeExceptReceived, lasting}
+use Rattle.mg_core.specs.Base.{IsBase}
 use Rattle.mg_core.specs.Step.{Sent, Run}
-use Rattle.mg_core.specs.World.{World, start_of}
+use Rattle.mg_core.specs.World.{World}
 use Rattle.mg_heard.specs.declared.open_flow.OpenFlow.{OpenFlow}
 use Rattle.mg_heard.specs.Intervals.{Interval, intervals}
 use Rattle.mg_heard.specs.Maximal.{IsOfPair, IsTellingOnce, LiesIn}
 use Rattle.mg_heard.specs.Moments.{AreMoments}
 use Rattle.mg_heard.specs.OpenFlows.{open_flow}
 
--- The intervals of these events on a gateway that was started with this configuration.
-abbrev pub AreIntervals : Config → List Event → List Interval → Type 0
-AreIntervals config events ys =
-    (moments : List (List OpenFlow)) × AreMoments (start_of config) events moments
+-- The intervals of these events on a gateway that began with this world. Ticks are counted from there.
+abbrev pub AreIntervals : World → List Event → List Interval → Type 0
+AreIntervals base events ys =
+    (moments : List (List OpenFlow)) × AreMoments base events moments
     × (ys ≡ intervals (reverse moments))
 
 -- Events determine their intervals.
 abbrev pub EventsDetermineIntervals : Type 0
 EventsDetermineIntervals =
-    (config : Config) (events : List Event) (xs ys : List Interval)
-    → AreIntervals config events xs → AreIntervals config events ys → xs ≡ ys
+    (base : World) (events : List Event) (xs ys : List Interval)
+    → AreIntervals base events xs → AreIntervals base events ys → xs ≡ ys
 
 -- ## The intervals at each tick
 
@@ -42,10 +41,10 @@ IsToldAt tick talker listener ys =
 -- Before each tick, and before the tick that comes next after all events, a talker's speech flows
 -- to a listener if and only if one of the intervals contains this tick for this pair. This is the
 -- flow of the headline theorem.
-abbrev pub TellsTheFlow : Config → List Event → List Interval → Type 0
-TellsTheFlow config events ys =
+abbrev pub TellsTheFlow : World → List Event → List Interval → Type 0
+TellsTheFlow base events ys =
     (past future : List Event) (sent : List Sent) (w : World) (talker listener : ℕ)
-    → events ≡ past ++ future → Run (start_of config) past sent w → IsAtTick future
+    → events ≡ past ++ future → Run base past sent w → IsAtTick future
     → (flow w.gateway talker listener ≡ true)
     ↔ IsToldAt (count_by is_tick past) talker listener ys
 
@@ -53,9 +52,9 @@ TellsTheFlow config events ys =
 -- contains.
 abbrev pub IntervalsTellTheTruth : Type 0
 IntervalsTellTheTruth =
-    (config : Config) (past future : List Event) (sent : List Sent) (w : World)
-    (ys : List Interval) (y : Interval) → AreIntervals config (past ++ future) ys
-    → Run (start_of config) past sent w → IsAtTick future → Contains ys y
+    (base : World) (past future : List Event) (sent : List Sent) (w : World)
+    (ys : List Interval) (y : Interval) → AreIntervals base (past ++ future) ys
+    → Run base past sent w → IsAtTick future → Contains ys y
     → LiesIn (count_by is_tick past) y
     → y.flow ≡ open_flow w.gateway y.flow.listener y.flow.talker
 
@@ -64,14 +63,14 @@ IntervalsTellTheTruth =
 -- No two intervals of the same listener and talker contain the same tick.
 abbrev pub NoPairIsToldTwice : Type 0
 NoPairIsToldTwice =
-    (config : Config) (events : List Event) (ys : List Interval) → IsStart config
-    → AreIntervals config events ys → AllPairs IsTellingOnce ys
+    (base : World) (events : List Event) (ys : List Interval) → IsBase base
+    → AreIntervals base events ys → AllPairs IsTellingOnce ys
 
 -- ## Scripts without speech
 
--- A journal and a full recording of the same gateway have the same intervals. (`without_rtp` drops
--- the RTP datagrams.)
+-- A journal and a full recording of the same gateway have the same intervals. (`lasting` drops the RTP datagrams and the
+-- oversized control datagrams.) They may begin with worlds that differ in what was received.
 abbrev pub RtpChangesNoInterval : Type 0
 RtpChangesNoInterval =
-    (config : Config) (events : List Event) (ys : List Interval)
-    → AreIntervals config events ys → AreIntervals config (without_rtp events) ys
+    (a b : World) (events : List Event) (ys : List Interval) → AgreeExceptReceived a b
+    → AreIntervals a events ys → AreIntervals b (lasting events) ys

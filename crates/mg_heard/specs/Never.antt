@@ -4,11 +4,10 @@ use Rattle.std.specs.Prelude.{Option, Some, None, IsSomeAnd, codes}
 use Rattle.std.specs.Io.KnownBytes.{Appends}
 use Rattle.std.specs.List.{AllZip, list_any}
 use Rattle.std.specs.Option.{option_map, option_map_or}
-use Rattle.mg_engine.specs.declared.config.Config.{Config}
 use Rattle.mg_core.specs.Counted.{journal_lines}
 use Rattle.mg_core.specs.Note.{Note, events_in, notes_of}
 use Rattle.mg_core.specs.Run.{HasRead}
-use Rattle.mg_core.specs.World.{start_of}
+use Rattle.mg_core.specs.World.{World}
 use Rattle.mg_heard.specs.declared.format.Format.{Format}
 use Rattle.mg_heard.specs.declared.missing.Missing.{Missing}
 use Rattle.mg_heard.specs.declared.open_flow.OpenFlow.{OpenFlow}
@@ -42,33 +41,33 @@ abbrev pub without_date : Violation → ℕ × OpenFlow
 without_date v = (v.at.tick, v.flow)
 
 -- The complete lines of this text break no rule before a tick.
-pub record IsKept (rules : List Rule) (config : Config) (text : List ℕ) : Type 0 where
+pub record IsKept (rules : List Rule) (base : World) (text : List ℕ) : Type 0 where
   pub notes : List Note
   pub are : notes_of (journal_lines false text) ≡ Some notes
   pub before : List (List OpenFlow)
   pub now : List OpenFlow
-  pub are_moments : AreMoments (start_of config) (events_in notes) (before ++ now ∷ [])
+  pub are_moments : AreMoments base (events_in notes) (before ++ now ∷ [])
   pub none : first_forbidden rules 0 before ≡ None
 
 -- A script was read to its end, or until a rule was broken before one of its ticks. `found` is the first violation in
 -- the moments of what was read. So if `found` is `None`, the script was read to its end, and no rule forbids a flow
 -- that is open in one of its moments. At most the last 4096 bytes that were read can contain a violation before a tick.
 -- For each rule, `missing` says whether its talker or its listener never appeared in what was read.
-pub record IsWatched (rules : List Rule) (config : Config) (input rest : Option (List ℕ))
+pub record IsWatched (rules : List Rule) (base : World) (input rest : Option (List ℕ))
     (found : Option Violation) (missing : List Missing) : Type 0 where
   pub front : List ℕ
   pub piece : List ℕ
   pub size : length piece ≤ 4096
-  pub prompt : (front ≡ []) ⊎ IsKept rules config front
+  pub prompt : (front ≡ []) ⊎ IsKept rules base front
   pub ended : Bool
   pub read : HasRead input rest (front ++ piece) ended
   pub notes : List Note
   pub are : notes_of (journal_lines ended (front ++ piece)) ≡ Some notes
   pub moments : List (List OpenFlow)
-  pub are_moments : AreMoments (start_of config) (events_in notes) moments
+  pub are_moments : AreMoments base (events_in notes) moments
   pub first : option_map without_date found ≡ first_forbidden rules 0 moments
-  pub missing_are : AllZip (λ rule m. IsMissing config (events_in notes) rule.talker m.talker
-      × IsMissing config (events_in notes) rule.listener m.listener) rules missing
+  pub missing_are : AllZip (λ rule m. IsMissing base (events_in notes) rule.talker m.talker
+      × IsMissing base (events_in notes) rule.listener m.listener) rules missing
   pub before_tick : ended ≡ false → IsSomeAnd found (λ v. v.at.tick + 1 < length moments)
 
 -- ## The line

@@ -1,8 +1,8 @@
 -- Everything that is reported to a sink about a script: all intervals, with their dates, and all gaps.
 use Rattle.std.specs.Prelude.{◌≡◌, ⊤, List, [], ◌∷◌, map, reverse, All, IfSome}
 use Rattle.std.specs.Option.{option_map}
-use Rattle.mg_engine.specs.declared.config.Config.{Config}
 use Rattle.mg_core.specs.Note.{Note, events_in}
+use Rattle.mg_core.specs.World.{World}
 use Rattle.mg_heard.specs.declared.entry.Entry.{Entry}
 use Rattle.mg_heard.specs.declared.entry.Entry.TheVariants as entries
 use Rattle.mg_heard.specs.declared.extent.Extent.{Extent}
@@ -53,12 +53,12 @@ HasMoments P (entries.Audible x) = P x.first × IfSome x.end P
 
 -- After a whole script, exactly its intervals and gaps have been reported, in order and each once, and the intervals
 -- have the right dates. `Told` is true of these entries, and of the time that the script covers.
-pub record TellsAll (config : Config) (notes : List Note) (Told : Extent → List Entry → Type 0)
+pub record TellsAll (base : World) (notes : List Note) (Told : Extent → List Entry → Type 0)
     : Type 0 where
   pub xs : List Entry
   pub no_others : audible_in xs ≡ []
-  pub are : AreIntervals config (events_in notes) (intervals_in xs)
-  pub flow : TellsTheFlow config (events_in notes) (intervals_in xs)
+  pub are : AreIntervals base (events_in notes) (intervals_in xs)
+  pub flow : TellsTheFlow base (events_in notes) (intervals_in xs)
   pub gaps : gaps_in xs ≡ gaps_of (reverse notes)
   pub dated : All (HasMoments (IsDated (reverse notes))) xs
   pub told : Told (extent_of (reverse notes)) xs

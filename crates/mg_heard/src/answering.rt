@@ -1,6 +1,8 @@
 ghost use Rattle.std.specs.Prelude.{◌≡◌, IfOk};
 ghost use Rattle.mg_core.specs.Follow.{IsFollowed};
 ghost use Rattle.mg_core.specs.Note.{events_in};
+ghost use Rattle.mg_core.specs.World.{World};
+ghost use Rattle.mg_core.specs.aids.Stands.{StandsFor};
 ghost use Rattle.mg_core.specs.declared.state.CoreState.{CoreState};
 ghost use Rattle.mg_heard.specs.aids.Calling.{AreMissing};
 ghost use Rattle.mg_heard.specs.Told.{TellsAll};
@@ -13,28 +15,29 @@ use crate::missing::Missing;
 use crate::query::Query;
 use crate::roll::Roll;
 use crate::verdict::Verdict;
-use mg_core::Config;
+use mg_core::Core;
 use mg_dates::Date;
 use std::alloc::Global;
 use std::io::Read;
 
-/// Runs a script, and answers whether a listener could hear a talker at a given time. `query` selects the listeners and
-/// the talkers. Also returns whether the gateway never had such a talker or such a listener.
+/// Runs a script on a gateway in this state, and answers whether a listener could hear a talker at a given time.
+/// `query` selects the listeners and the talkers. Also returns whether the gateway never had such a talker or such a
+/// listener.
 pub fn hear_at<R: Read>(
     alloc: Global,
-    config: Config,
+    core: Core,
     reader: &mut R,
     query: Query,
     time: Date,
 ) -> Result<(Verdict, Missing), HeardFault>
-    ensures answer { IfOk result (λ answer. (state : CoreState) ×
-        IsFollowed config (R.remaining reader.old) (R.remaining reader.new) state
-        (λ notes. AreMissing config (events_in notes) query.talker query.listener answer.1
-        × TellsAll config notes (λ extent xs. answer.0 ≡ verdict_at query time extent xs))) }
+    ensures answer { (base : World) → StandsFor core.state base → IfOk result (λ answer. (state : CoreState) ×
+        IsFollowed base (R.remaining reader.old) (R.remaining reader.new) state
+        (λ notes. AreMissing base (events_in notes) query.talker query.listener answer.1
+        × TellsAll base notes (λ extent xs. answer.0 ≡ verdict_at query time extent xs))) }
 {
     let Ok(roll) = Roll::of_query(alloc, &query) else {
         return Err(HeardFault::NoMemory);
     };
-    let (instant, extent, missing) = hear(alloc, config, reader, Instant::new(query, time), roll)?;
+    let (instant, extent, missing) = hear(alloc, core, reader, Instant::new(query, time), roll)?;
     Ok((instant.verdict(&extent), missing))
 }

@@ -16,8 +16,8 @@ impl<F: Follower + Drop> Follower for Attended<F> {
 
     ghost may_stop = { true };
 
-    ghost follows = { λ start a config notes. F.follows start.follower a.follower config notes
-        × AreCalled config (events_in notes) start.rolls.items a.rolls.items };
+    ghost follows = { λ start a base notes. F.follows start.follower a.follower base notes
+        × AreCalled base (events_in notes) start.rolls.items a.rolls.items };
 
     fn comment(&mut self, number: u64, line: &[u8]) -> Result<(), Stopped> {
         self.follower.comment(number, line)

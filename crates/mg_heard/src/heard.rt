@@ -1,5 +1,4 @@
 ghost use Rattle.std.specs.Prelude.{◌≡◌, ◌+◌, ◌∷◌, [], false, length, IfOk, List, OnOk};
-ghost use Rattle.mg_engine.specs.declared.config.Config.{Config};
 ghost use Rattle.mg_core.specs.Follow.{HasRun};
 ghost use Rattle.mg_core.specs.Note.{Note};
 ghost use Rattle.mg_core.specs.World.{World};
@@ -42,8 +41,8 @@ impl<S: Sink> Heard<S> {
     pub(crate) fn new(alloc: Global, sink: S) -> Result<Self, AllocError>
     where
         S: Drop,
-        ensures start { (config : Config) → S.told sink sink [] → IfOk result (λ h.
-            KeepsHeard config [] h.clock h.is_changed h.open (S.told h.sink h.sink)) }
+        ensures start { (base : World) → S.told sink sink [] → IfOk result (λ h.
+            KeepsHeard base [] h.clock h.is_changed h.open (S.told h.sink h.sink)) }
         ensures sink { IfOk result (λ h. h.sink ≡ sink) }
     {
         Ok(Heard {
@@ -96,9 +95,9 @@ impl<S: Sink> Heard<S> {
     /// At the end of a script, reports the intervals that end there and those that have no end. `core` is the gateway's
     /// state at that point.
     pub(crate) fn finish(&mut self, core: &Core) -> Result<(), Stopped>
-        ensures value { (start : S) (config : Config) (notes : List Note) → HasRun config notes core.now.state →
-            KeepsHeard config notes self.old.clock self.old.is_changed self.old.open (S.told start self.old.sink) →
-            OnOk result (TellsAll config notes (λ _. S.told start self.new.sink)) }
+        ensures value { (start : S) (base : World) (notes : List Note) → HasRun base notes core.now.state →
+            KeepsHeard base notes self.old.clock self.old.is_changed self.old.open (S.told start self.old.sink) →
+            OnOk result (TellsAll base notes (λ _. S.told start self.new.sink)) }
         ensures clock { self.new.clock ≡ self.old.clock }
     {
         mg_core::theorems::outcomes_are_unique();
@@ -114,8 +113,8 @@ impl<S: Sink> Follower for Heard<S> {
 
     ghost may_stop = { true };
 
-    ghost follows = { λ start h config notes.
-        KeepsHeard config notes h.clock h.is_changed h.open (S.told start.sink h.sink) };
+    ghost follows = { λ start h base notes.
+        KeepsHeard base notes h.clock h.is_changed h.open (S.told start.sink h.sink) };
 
     fn comment(&mut self, number: u64, line: &[u8]) -> Result<(), Stopped> {
         match self.clock.pass_comment(number, line) {

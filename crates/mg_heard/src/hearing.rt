@@ -1,9 +1,9 @@
-ghost use Rattle.std.specs.Prelude.{◌≡◌, ℕ, [], List, Err, IfErr, IfOk, OnOk, Option};
-ghost use Rattle.mg_engine.specs.Config.{IsValidConfig};
-ghost use Rattle.mg_engine.specs.declared.config.Config.{Config};
+ghost use Rattle.std.specs.Prelude.{◌≡◌, ◌≢◌, ℕ, [], List, Err, IfErr, IfOk, Option};
 ghost use Rattle.mg_core.specs.Follow.{HasRun, IsFollowed};
 ghost use Rattle.mg_core.specs.Note.{Note, events_in};
+ghost use Rattle.mg_core.specs.World.{World};
 ghost use Rattle.mg_core.specs.aids.Resume.{FindsBadLine};
+ghost use Rattle.mg_core.specs.aids.Stands.{StandsFor};
 ghost use Rattle.mg_core.specs.declared.fault.RunFault.{RunFault};
 ghost use Rattle.mg_core.specs.declared.fault.RunFault.TheVariants as runs;
 ghost use Rattle.mg_core.specs.declared.state.CoreState.{CoreState};
@@ -18,44 +18,46 @@ use crate::extent::Extent;
 use crate::heard::Heard;
 use crate::heard_fault::HeardFault;
 use crate::missing::Missing;
-use crate::roll::{Roll, missing_in};
+use crate::roll::{Roll, call_all, missing_in};
 use crate::sink::Sink;
-use mg_core::{Config, Core, RunFault, resume};
+use mg_core::{Core, RunFault, resume_from};
 use std::alloc::Global;
 use std::io::Read;
 
-/// Runs a script, and reports to a sink who could hear whom, as a series of intervals. Returns the sink, the time that
-/// the script covers, and who is missing. `roll` must be new.
+/// Runs a script on a gateway in this state, and reports to a sink who could hear whom, as a series of intervals.
+/// Returns the sink, the time that the script covers, and who is missing. `roll` must be new.
 ///
-/// An interval is reported when it ends or when the script ends, so the memory needed does not grow with the script. No
-/// packets are sent.
+/// Ticks are counted from the script's beginning: if a flow is open before the first tick, its interval begins with
+/// tick 0. An interval is reported when it ends or when the script ends, so the memory needed does not grow with the
+/// script. No packets are sent.
 pub fn hear<R: Read, S: Sink>(
     alloc: Global,
-    config: Config,
+    core: Core,
     reader: &mut R,
     sink: S,
     roll: Roll,
 ) -> Result<(S, Extent, Missing), HeardFault>
 where
     S: Drop,
-    ensures told { (talker listener : Option (List PartyName)) → S.told sink sink [] → IsNew talker listener roll →
-        IfOk result (λ heard. (state : CoreState) ×
-        IsFollowed config (R.remaining reader.old) (R.remaining reader.new) state
-        (λ notes. AreMissing config (events_in notes) talker listener heard.2
-        × TellsAll config notes (λ extent xs. S.told sink heard.0 xs × (heard.1 ≡ extent)))) }
-    ensures script { (number : ℕ) → result ≡ Err (HeardFault.Run (runs.Script number)) →
+    ensures told { (base : World) (talker listener : Option (List PartyName)) → StandsFor core.state base →
+        S.told sink sink [] → IsNew talker listener roll → IfOk result (λ heard. (state : CoreState) ×
+        IsFollowed base (R.remaining reader.old) (R.remaining reader.new) state
+        (λ notes. AreMissing base (events_in notes) talker listener heard.2
+        × TellsAll base notes (λ extent xs. S.told sink heard.0 xs × (heard.1 ≡ extent)))) }
+    ensures script { (base : World) (number : ℕ) → StandsFor core.state base →
+        result ≡ Err (HeardFault.Run (runs.Script number)) →
         FindsBadLine (R.remaining reader.old) (R.remaining reader.new) number }
-    ensures bad { result ≡ Err (HeardFault.Run runs.BadConfig) → ¬ IsValidConfig config }
-    ensures sound { OnOk result (IsValidConfig config) }
+    ensures good { result ≢ Err (HeardFault.Run runs.BadConfig) }
 {
     let Ok(follower) = Heard::new(alloc, sink) else {
         return Err(HeardFault::NoMemory);
     };
-    let Ok(rolls) = Vec::from_array(alloc, [roll]) else {
+    let Ok(mut rolls) = Vec::from_array(alloc, [roll]) else {
         return Err(HeardFault::NoMemory);
     };
+    call_all(&mut rolls, &core);
     let mut attended = Attended { follower, rolls };
-    match resume(alloc, config, reader, &mut attended) {
+    match resume_from(alloc, core, reader, &mut attended) {
         Ok(core) => {
             let missing = missing_in(attended.rolls.as_slice());
             let (sink, extent) = finish(attended.follower, &core)?;
@@ -69,9 +71,9 @@ where
 fn finish<S: Sink>(mut heard: Heard<S>, core: &Core) -> Result<(S, Extent), HeardFault>
 where
     S: Drop,
-    ensures value { (start : S) (config : Config) (notes : List Note) → HasRun config notes core.now.state →
-        KeepsHeard config notes heard.clock heard.is_changed heard.open (S.told start heard.sink) →
-        IfOk result (λ ended. TellsAll config notes (λ extent xs. S.told start ended.0 xs × (ended.1 ≡ extent))) }
+    ensures value { (start : S) (base : World) (notes : List Note) → HasRun base notes core.now.state →
+        KeepsHeard base notes heard.clock heard.is_changed heard.open (S.told start heard.sink) →
+        IfOk result (λ ended. TellsAll base notes (λ extent xs. S.told start ended.0 xs × (ended.1 ≡ extent))) }
     ensures stops { IfErr result (λ fault. fault ≡ HeardFault.Stopped) }
 {
     match heard.finish(core) {

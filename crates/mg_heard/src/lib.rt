@@ -4,7 +4,7 @@
 //! or the script ends:
 //!
 //! ```rust
-//! let (sink, extent, missing) = hear(alloc, config, &mut input, sink, roll)?;
+//! let (sink, extent, missing) = hear(alloc, core, &mut input, sink, roll)?;
 //! ```
 //!
 //! [`hear_at`] answers whether a talker could be heard at a given time. [`write_report`] writes a line for each

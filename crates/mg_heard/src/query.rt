@@ -52,7 +52,8 @@ fn may_follow(moment: Moment, time: Date) -> bool
     }
 }
 
-/// Returns whether a period may last beyond the time `from`, or true if `from` is `None`. A period without an end lasts.
+/// Returns whether a period may last beyond the time `from`, or true if `from` is `None`. A period without an end
+/// does.
 fn lasts_beyond_from(end: Option<Moment>, from: Option<Date>) -> bool
     ensures value { result ≡ option_map_or (λ time. option_map_or (λ m. is_future true m time) end true) from true }
 {

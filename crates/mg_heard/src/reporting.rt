@@ -1,6 +1,8 @@
 ghost use Rattle.std.specs.Prelude.{◌≡◌, IfOk};
 ghost use Rattle.mg_core.specs.Follow.{IsFollowed};
 ghost use Rattle.mg_core.specs.Note.{events_in};
+ghost use Rattle.mg_core.specs.World.{World};
+ghost use Rattle.mg_core.specs.aids.Stands.{StandsFor};
 ghost use Rattle.mg_core.specs.declared.state.CoreState.{CoreState};
 ghost use Rattle.mg_heard.specs.Came.{unless_missing};
 ghost use Rattle.mg_heard.specs.aids.Calling.{AreMissing};
@@ -22,24 +24,26 @@ use crate::roll::Roll;
 use crate::scale::Scale;
 use crate::style::Style;
 use crate::verdict::Verdict;
-use mg_core::Config;
+use mg_core::Core;
 use mg_dates::Date;
 use std::alloc::Global;
 use std::io::{Read, Write};
 
-/// Reports who could hear whom while a script ran. Returns the report, the time that the script covers, and who is
-/// missing. A talker or a listener is missing if the report's query names it and the gateway never had it.
+/// Reports who could hear whom while a script ran on a gateway in this state. Returns the report, the time that the
+/// script covers, and who is missing. A talker or a listener is missing if the report's query names it and the gateway
+/// never had it.
 fn hear_report<'a, R: Read, W: Write>(
     alloc: Global,
-    config: Config,
+    core: Core,
     reader: &mut R,
     report: Report<'a, W>,
 ) -> Result<(Report<'a, W>, Extent, Missing), HeardFault>
-    ensures same_reference { IfOk result (λ heard. heard.0.writer.ghost_name ≡ report.entry.writer.ghost_name) }
-    ensures reported { IfOk result (λ heard. (state : CoreState) ×
-        IsFollowed config (R.remaining reader.old) (R.remaining reader.new) state
-        (λ notes. AreMissing config (events_in notes) report.entry.query.now.talker report.entry.query.now.listener heard.2
-        × TellsAll config notes (λ extent xs. HasReported
+    ensures same_reference { (base : World) → StandsFor core.state base →
+        IfOk result (λ heard. heard.0.writer.ghost_name ≡ report.entry.writer.ghost_name) }
+    ensures reported { (base : World) → StandsFor core.state base → IfOk result (λ heard. (state : CoreState) ×
+        IsFollowed base (R.remaining reader.old) (R.remaining reader.new) state
+        (λ notes. AreMissing base (events_in notes) report.entry.query.now.talker report.entry.query.now.listener heard.2
+        × TellsAll base notes (λ extent xs. HasReported
         (record { style = report.entry.lines.now; query = report.entry.query.now; written = W.contents report.entry.writer.now })
         (record { style = heard.0.lines.now; query = heard.0.query.now; written = W.contents heard.0.writer.now }) xs
         × (heard.1 ≡ extent)))) }
@@ -47,26 +51,27 @@ fn hear_report<'a, R: Read, W: Write>(
     let Ok(roll) = Roll::of_query(alloc, report.query) else {
         return Err(HeardFault::NoMemory);
     };
-    let (report, extent, missing) = hear(alloc, config, reader, report, roll)?;
+    let (report, extent, missing) = hear(alloc, core, reader, report, roll)?;
     Ok((report, extent, missing))
 }
 
-/// Writes who could hear whom while a script ran: a line for each interval and each gap that `query` selects. The line
-/// for an interval is written when the interval or the script ends. Returns the range of ticks from the first beginning
-/// to the last end of the selected intervals (all ticks if there is no such interval), the time that the script covers,
-/// and who is missing. A talker or a listener is missing if `query` names it and the gateway never had it.
+/// Writes who could hear whom while a script ran on a gateway in this state: a line for each interval and each gap that
+/// `query` selects. The line for an interval is written when the interval or the script ends. Returns the range of
+/// ticks from the first beginning to the last end of the selected intervals (all ticks if there is no such interval),
+/// the time that the script covers, and who is missing. A talker or a listener is missing if `query` names it and the
+/// gateway never had it.
 pub fn write_report<R: Read, W: Write>(
     alloc: Global,
-    config: Config,
+    core: Core,
     reader: &mut R,
     style: Style,
     query: Query,
     writer: &mut W,
 ) -> Result<(Scale, Extent, Missing), HeardFault>
-    ensures report { IfOk result (λ written. (state : CoreState) ×
-        IsFollowed config (R.remaining reader.old) (R.remaining reader.new) state
-        (λ notes. AreMissing config (events_in notes) query.talker query.listener written.2
-        × TellsAll config notes (λ extent xs.
+    ensures report { (base : World) → StandsFor core.state base → IfOk result (λ written. (state : CoreState) ×
+        IsFollowed base (R.remaining reader.old) (R.remaining reader.new) state
+        (λ notes. AreMissing base (events_in notes) query.talker query.listener written.2
+        × TellsAll base notes (λ extent xs.
         WritesReport style query (W.contents writer.old) (W.contents writer.new) xs × (written.1 ≡ extent)))) }
 {
     let Ok(mut lines) = LineWriter::new(alloc, style) else {
@@ -80,7 +85,7 @@ pub fn write_report<R: Read, W: Write>(
         query: &query,
         writer,
     };
-    let (report, extent, missing) = hear_report(alloc, config, reader, report)?;
+    let (report, extent, missing) = hear_report(alloc, core, reader, report)?;
     let Report { writer, .. } = report;
     // This line does nothing at run time. It makes the writer's contents available to the proof.
     let _ = &*writer;
@@ -105,26 +110,26 @@ fn write_verdict<W: Write>(
     }
 }
 
-/// Runs a script, and writes one line that answers whether a listener could hear a talker at a given time. `query`
-/// selects the listeners and the talkers. Returns the answer, and who is missing: a talker or a listener that `query`
-/// names and the gateway never had. If somebody is missing, the answer is not known.
+/// Runs a script on a gateway in this state, and writes one line that answers whether a listener could hear a talker at
+/// a given time. `query` selects the listeners and the talkers. Returns the answer, and who is missing: a talker or a
+/// listener that `query` names and the gateway never had. If somebody is missing, the answer is not known.
 pub fn write_answer<R: Read, W: Write>(
     alloc: Global,
-    config: Config,
+    core: Core,
     reader: &mut R,
     style: Style,
     query: Query,
     time: Date,
     writer: &mut W,
 ) -> Result<(Verdict, Missing), HeardFault>
-    ensures answer { IfOk result (λ answer. (state : CoreState) ×
-        IsFollowed config (R.remaining reader.old) (R.remaining reader.new) state
-        (λ notes. AreMissing config (events_in notes) query.talker query.listener answer.1
-        × TellsAll config notes (λ extent xs. answer.0 ≡ unless_missing verdicts.Unknown answer.1 (verdict_at query time extent xs)))) }
+    ensures answer { (base : World) → StandsFor core.state base → IfOk result (λ answer. (state : CoreState) ×
+        IsFollowed base (R.remaining reader.old) (R.remaining reader.new) state
+        (λ notes. AreMissing base (events_in notes) query.talker query.listener answer.1
+        × TellsAll base notes (λ extent xs. answer.0 ≡ unless_missing verdicts.Unknown answer.1 (verdict_at query time extent xs)))) }
     ensures written { IfOk result (λ answer.
         WritesVerdict style answer.0 (W.contents writer.old) (W.contents writer.new)) }
 {
-    let (verdict, missing) = hear_at(alloc, config, reader, query, time)?;
+    let (verdict, missing) = hear_at(alloc, core, reader, query, time)?;
     let verdict = verdict.if_known(missing);
     write_verdict(alloc, style, &verdict, writer)?;
     Ok((verdict, missing))

@@ -1,5 +1,4 @@
 ghost use Rattle.std.specs.Prelude.{◌≡◌, ◌∷◌, ◌++◌, [], List, map, IfOk};
-ghost use Rattle.mg_engine.specs.declared.config.Config.{Config};
 ghost use Rattle.mg_core.specs.Follow.{HasRun};
 ghost use Rattle.mg_core.specs.Note.{Note, Happened, events_in};
 ghost use Rattle.mg_core.specs.World.{World};
@@ -85,10 +84,10 @@ pub(crate) fn call_all(rolls: &mut [Roll], core: &Core)
 
 /// Updates each roll for the terminations that the gateway has after an event, unless the event can't change them.
 pub(crate) fn call_after(rolls: &mut [Roll], event: &Event, core: &Core)
-    ensures value { (start : List Called) (config : Config) (notes : List Note) →
-        AreCalled config (events_in notes) start rolls.old →
-        HasRun config (notes ++ Happened event.now ∷ []) core.now.state →
-        AreCalled config (events_in (notes ++ Happened event.now ∷ [])) start rolls.new }
+    ensures value { (start : List Called) (base : World) (notes : List Note) →
+        AreCalled base (events_in notes) start rolls.old →
+        HasRun base (notes ++ Happened event.now ∷ []) core.now.state →
+        AreCalled base (events_in (notes ++ Happened event.now ∷ [])) start rolls.new }
 {
     mg_core::theorems::outcomes_are_unique();
     only_control_changes_flows();

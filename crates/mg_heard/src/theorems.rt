@@ -1,7 +1,7 @@
 //! Properties of all intervals. The functions do nothing: their contracts are the theorems.
 
 ghost use Rattle.std.specs.Prelude.{◌≡◌, ◌↔◌, true, List};
-ghost use Rattle.mg_engine.specs.declared.config.Config.{Config};
+ghost use Rattle.mg_core.specs.World.{World};
 ghost use Rattle.mg_core.specs.declared.event.Event.{Event};
 ghost use Rattle.mg_heard.specs.Intervals.{Interval};
 ghost use Rattle.mg_heard.specs.Laws.{AreIntervals, EventsDetermineIntervals, IntervalsTellTheTruth, NoPairIsToldTwice, RtpChangesNoInterval, TellsTheFlow};
@@ -18,7 +18,7 @@ pub fn same_flows_are_equal()
 
 /// For every list of events on a gateway, there is a list of its intervals.
 pub fn intervals_exist(events: &[Event])
-    ensures theorem { (config : Config) → (ys : List Interval) × AreIntervals config events.now ys }
+    ensures theorem { (base : World) → (ys : List Interval) × AreIntervals base events.now ys }
 {
     for event in events {
         mg_core::theorems::each_event_has_an_outcome(event);
@@ -35,8 +35,8 @@ pub fn intervals_are_unique()
 /// Some interval of a pair contains a tick if and only if the talker's speech flows to the listener in the world before
 /// that tick. The interval's context and Remotes are also right in that world.
 pub fn intervals_tell_the_flow()
-    ensures flow { (config : Config) (events : List Event) (ys : List Interval) →
-        AreIntervals config events ys → TellsTheFlow config events ys }
+    ensures flow { (base : World) (events : List Event) (ys : List Interval) →
+        AreIntervals base events ys → TellsTheFlow base events ys }
     ensures truth { IntervalsTellTheTruth }
 {
     mg_core::theorems::outcomes_are_unique();

@@ -1,6 +1,5 @@
 ghost use Rattle.std.specs.Prelude.{◌≡◌, [], false, IfOk, None, Option};
 ghost use Rattle.std.specs.Option.{option_map, option_or};
-ghost use Rattle.mg_engine.specs.declared.config.Config.{Config};
 ghost use Rattle.mg_core.specs.World.{World};
 ghost use Rattle.mg_core.specs.aids.Stands.{StandsFor};
 ghost use Rattle.mg_heard.specs.Never.{without_date};
@@ -65,8 +64,8 @@ fn violation_in(
 impl<'a> Watch<'a> {
     /// Creates a follower at the beginning of a script. No other call allocates.
     pub(crate) fn new(alloc: Global, rules: &'a [Rule]) -> Result<Self, AllocError>
-        ensures start { (config : Config) → IfOk result (λ w.
-            KeepsRules rules.now config [] w.clock.ticks w.is_changed w.violation) }
+        ensures start { (base : World) → IfOk result (λ w.
+            KeepsRules rules.now base [] w.clock.ticks w.is_changed w.violation) }
         ensures rules { IfOk result (λ w. w.rules.now ≡ rules.now) }
     {
         Ok(Watch {
@@ -104,8 +103,8 @@ impl Follower for Watch<'_> {
 
     ghost may_stop = { true };
 
-    ghost follows = { λ start w config notes. (w.rules.now ≡ start.rules.now)
-        × KeepsRules start.rules.now config notes w.clock.ticks w.is_changed w.violation };
+    ghost follows = { λ start w base notes. (w.rules.now ≡ start.rules.now)
+        × KeepsRules start.rules.now base notes w.clock.ticks w.is_changed w.violation };
 
     fn comment(&mut self, number: u64, line: &[u8]) -> Result<(), Stopped> {
         if self.violation.is_some() {

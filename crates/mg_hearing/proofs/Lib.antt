@@ -1,7 +1,9 @@
+pub mod BeginningLemmas
 pub mod AbsenceLemmas
 pub mod HeardLemmas
 pub mod HashLemmas
 pub mod ReadLemmas
+pub mod OpenLemmas
 pub mod PageLemmas
 pub mod WatchedLemmas
 pub mod AudibleLemmas

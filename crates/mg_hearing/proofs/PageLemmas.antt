@@ -5,10 +5,10 @@ use Rattle.std.proofs.lemmas.List.{at_drop_more}
 use Rattle.std.specs.Prelude.{IfOk, IfSome}
 use Rattle.std.specs.List.{AllZip, flat_map}
 use Rattle.std.specs.Io.KnownBytes.{Appends}
-use Rattle.mg_engine.specs.declared.config.Config.{Config}
 use Rattle.mg_core.specs.declared.state.CoreState.{CoreState}
 use Rattle.mg_core.specs.Follow.{IsFollowed}
 use Rattle.mg_core.specs.Note.{Note}
+use Rattle.mg_core.specs.World.{World}
 use Rattle.mg_dates.specs.declared.date.Date.{Date}
 use Rattle.mg_heard.specs.declared.entry.Entry.{Entry}
 use Rattle.mg_heard.specs.declared.extent.Extent.{Extent}
@@ -93,7 +93,7 @@ filled_both (part ∷ parts) more a b (shown, others, given, rest, is) k = (
 front_filled : (request : HeardRequest) (front : List ℕ) → IsFront request front → IsFilled (front_parts request) front
 unfolding IsGiven filled_with
 front_filled request front h =
-    let name = script_name request.file in
+    let name = script_name request.file request.later in
     subst (λ (t : List ℕ). IsFilled (front_parts request) t) (sym h.is)
     (filled (front_parts request) (name ∷ name ∷ party_word request.query.listener ∷ party_word request.query.talker
     ∷ h.from ∷ h.until ∷ [] ∷ []) (refl, (refl, (refl, (refl, (tt, (tt, (refl, tt))))))))
@@ -101,27 +101,27 @@ front_filled request front h =
 scale_parts : List (List ℕ × Option (List ℕ))
 scale_parts = (TABLE_END.now, None) ∷ (TICKS.now, None) ∷ (WHOLE.now, Some []) ∷ []
 
-origin_parts : (file : Option (List ℕ)) → (digest : List ℕ) → List (List ℕ × Option (List ℕ))
-origin_parts file digest = (SOURCE.now, Some (script_name file)) ∷ (SIZE.now, None) ∷ (HASH.now, Some digest)
+origin_parts : HeardRequest → (digest : List ℕ) → List (List ℕ × Option (List ℕ))
+origin_parts request digest = (SOURCE.now, Some (script_name request.file request.later)) ∷ (SIZE.now, None) ∷ (HASH.now, Some digest)
     ∷ (TIME.now, None) ∷ (PROGRAM.now, None) ∷ (PROGRAM_HASH.now, None) ∷ (COMMAND.now, None)
-    ∷ ([], Some (last_words file)) ∷ (TRUST.now, Some []) ∷ []
+    ∷ ([], Some (last_words request.file request.later)) ∷ (TRUST.now, Some []) ∷ []
 
-back_filled : (file : Option (List ℕ)) (digest scale origin : List ℕ) → IsScale scale → IsOrigin file digest origin →
-    IsFilled (back_parts file digest) (scale ++ origin)
+back_filled : (request : HeardRequest) (digest scale origin : List ℕ) → IsScale scale → IsOrigin request digest origin →
+    IsFilled (back_parts request digest) (scale ++ origin)
 unfolding IsGiven filled_with scale_parts origin_parts
-back_filled file digest scale origin h k =
+back_filled request digest scale origin h k =
     let first : IsFilled scale_parts scale = subst (λ (t : List ℕ). IsFilled scale_parts t) (sym h.is)
     (filled scale_parts (h.scale ∷ h.ticks ∷ [] ∷ []) (tt, (tt, (refl, tt)))) in
-    let second : IsFilled (origin_parts file digest) origin =
-    subst (λ (t : List ℕ). IsFilled (origin_parts file digest) t) (sym k.is)
-    (filled (origin_parts file digest) (script_name file ∷ k.size ∷ digest ∷ k.covered ∷ k.program ∷ k.program_digest
-    ∷ k.options ∷ last_words file ∷ [] ∷ []) (refl, (tt, (refl, (tt, (tt, (tt, (tt, (refl, (refl, tt)))))))))) in
-    filled_both scale_parts (origin_parts file digest) scale origin first second
+    let second : IsFilled (origin_parts request digest) origin =
+    subst (λ (t : List ℕ). IsFilled (origin_parts request digest) t) (sym k.is)
+    (filled (origin_parts request digest) (script_name request.file request.later ∷ k.size ∷ digest ∷ k.covered ∷ k.program ∷ k.program_digest
+    ∷ k.options ∷ last_words request.file request.later ∷ [] ∷ []) (refl, (tt, (refl, (tt, (tt, (tt, (tt, (refl, (refl, tt)))))))))) in
+    filled_both scale_parts (origin_parts request digest) scale origin first second
 
 -- A table, followed by its scale and the origin, is a page.
 pub as_page : (request : HeardRequest) (asked : Question) (script old mid new : Option (List ℕ))
     (scale digest origin : List ℕ) (missing : Missing) (extent : Extent) (xs : List Entry) → is_page asked.style.format ≡ true →
-    IsScale scale → IsDigest script digest → IsOrigin request.file digest origin → Appends mid new (scale ++ origin) →
+    IsScale scale → IsDigest script digest → IsOrigin request digest origin → Appends mid new (scale ++ origin) →
     WritesTable request asked old mid xs → Prints asked.style.format asked.at request asked script old new missing (unless_missing Unknown missing Done) extent xs
 as_page request asked script old mid new scale digest origin missing extent xs page scaled hashed is writes h =
     let (front, rows, begins, lines, table) = h in
@@ -134,23 +134,23 @@ as_page request asked script old mid new scale digest origin missing extent xs p
       front_filled request front begins,
       hashed,
       lines,
-      back_filled request.file digest scale origin scaled is,
+      back_filled request digest scale origin scaled is,
       subst (λ (t : List ℕ). Appends old new t) (append_assoc front (head ++ rows) (scale ++ origin)
           ∙ ap (λ (t : List ℕ). front ++ t) (append_assoc head rows (scale ++ origin)))
           (Appends-trans old mid new (front ++ (head ++ rows)) (scale ++ origin) table writes),
     )
 
 -- The front of a page, followed by its rows, is a table.
-pub as_table : {S E : Type 0} (request : HeardRequest) (asked : Question) (config : Config) (input rest old mid new : Option (List ℕ))
+pub as_table : {S E : Type 0} (request : HeardRequest) (asked : Question) (base : World) (input rest old mid new : Option (List ℕ))
     (front : List ℕ) (A : Missing → List Note → Type 0) (result : Result (S × Extent × Missing) E) →
     IsFront request front → Appends old mid front →
-    IfOk result (λ written. (state : CoreState) × IsFollowed config input rest state (λ notes. A written.2 notes
-    × TellsAll config notes (λ extent xs. WritesReport asked.style asked.query mid new xs × (written.1 ≡ extent)))) →
-    IfOk result (λ written. (state : CoreState) × IsFollowed config input rest state (λ notes. A written.2 notes
-    × TellsAll config notes (λ _. WritesTable request asked old new)))
-as_table request asked config input rest old mid new front A (Ok value) is begins (state, h) = (
+    IfOk result (λ written. (state : CoreState) × IsFollowed base input rest state (λ notes. A written.2 notes
+    × TellsAll base notes (λ extent xs. WritesReport asked.style asked.query mid new xs × (written.1 ≡ extent)))) →
+    IfOk result (λ written. (state : CoreState) × IsFollowed base input rest state (λ notes. A written.2 notes
+    × TellsAll base notes (λ _. WritesTable request asked old new)))
+as_table request asked base input rest old mid new front A (Ok value) is begins (state, h) = (
   state,
-  prints_more config input rest state (A value.2)
+  prints_more base input rest state (A value.2)
       (λ extent xs. WritesReport asked.style asked.query mid new xs × (value.1 ≡ extent))
       (λ _. WritesTable request asked old new)
       (λ (extent : Extent) (xs : List Entry) (h : WritesReport asked.style asked.query mid new xs × (value.1 ≡ extent)).
@@ -162,4 +162,4 @@ as_table request asked config input rest old mid new front A (Ok value) is begin
         Appends-trans old mid new front (head_of asked.style.format ++ text) begins appends,
       )) h,
 )
-as_table request asked config input rest old mid new front A (Err error) is begins h = tt
+as_table request asked base input rest old mid new front A (Err error) is begins h = tt

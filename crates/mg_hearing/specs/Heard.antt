@@ -5,6 +5,7 @@ use Rattle.mg_engine.specs.declared.config.Config.{Config}
 use Rattle.mg_core.specs.declared.state.CoreState.{CoreState}
 use Rattle.mg_core.specs.Follow.{IsFollowed}
 use Rattle.mg_core.specs.Note.{Note, events_in}
+use Rattle.mg_core.specs.World.{World}
 use Rattle.mg_dates.specs.declared.date.Date.{Date}
 use Rattle.mg_heard.specs.declared.entry.Entry.{Entry}
 use Rattle.mg_heard.specs.declared.extent.Extent.{Extent}
@@ -24,12 +25,13 @@ use Rattle.mg_options.specs.declared.status.Status.{Status}
 use Rattle.mg_options.specs.declared.status.Status.TheVariants.{Done, CouldNotHear, Unknown}
 use Rattle.mg_arguments.specs.declared.heard_request.HeardRequest.{HeardRequest}
 use Rattle.mg_arguments.specs.declared.printing.Printing.{Printing}
+use Rattle.mg_arguments.specs.Script.{HasScript}
 use Rattle.mg_arguments.specs.Title.{title_line}
 use Rattle.mg_hearing.specs.declared.question.Question.{Question}
 use Rattle.mg_hearing.specs.Absence.{absences}
 use Rattle.mg_hearing.specs.Page.{WritesPage, script_name}
 use Rattle.mg_host.specs.declared.host_call.HostCall.{HostCall}
-use Rattle.mg_host.specs.HostCalls.{ReadsFrom}
+use Rattle.mg_hearing.specs.Files.{ReadsFiles}
 
 -- The exit status that answers a question about a given time.
 abbrev pub status_for : Verdict → Status
@@ -50,24 +52,27 @@ Prints format (Some time) request asked script old new missing status extent xs 
     let verdict = unless_missing verdicts.Unknown missing (verdict_at asked.query time extent xs) in
     WritesVerdict asked.style verdict old new × (status ≡ status_for verdict)
 
--- A script was read to its end. It begins with the title of the configuration with which it is run, and `Told` is true
--- of its notes.
-pub record IsRead (script : Option (List ℕ)) (Told : Config → List Note → Type 0) : Type 0 where
+-- A text was read to its end. It begins with the title of the configuration with which its script is run, and `Told` is
+-- true of the world in which the gateway began and of the script's notes.
+pub record IsRead (text : Option (List ℕ)) (Told : World → List Note → Type 0) : Type 0 where
   pub config : Config
-  pub titled : IfSome script (λ text. StartsWith text (title_line config))
+  pub titled : IfSome text (λ known. StartsWith known (title_line config))
+  pub base : World
+  pub script : Option (List ℕ)
+  pub has_script : HasScript text config base script
   pub rest : Option (List ℕ)
   pub state : CoreState
-  pub prints : IsFollowed config script rest state (Told config)
+  pub prints : IsFollowed base script rest state (Told base)
 
 -- A script was read, and the output follows from all its intervals. The errors say exactly whether the question's
 -- talker and listener are missing: the gateway never had them.
 abbrev pub IsHeard : HeardRequest → Question → (script old new : Option (List ℕ))
     → (Says : List ℕ → Type 0) → Status → Type 0
-IsHeard request asked script old new Says status = IsRead script (λ config notes. (missing : Missing)
-    × IsMissing config (events_in notes) asked.query.talker missing.talker
-    × IsMissing config (events_in notes) asked.query.listener missing.listener
-    × Says (absences (script_name request.file) request.query.talker request.query.listener missing)
-    × TellsAll config notes (Prints asked.style.format asked.at request asked script old new missing status))
+IsHeard request asked script old new Says status = IsRead script (λ base notes. (missing : Missing)
+    × IsMissing base (events_in notes) asked.query.talker missing.talker
+    × IsMissing base (events_in notes) asked.query.listener missing.listener
+    × Says (absences (script_name request.file request.later) request.query.talker request.query.listener missing)
+    × TellsAll base notes (Prints asked.style.format asked.at request asked script old new missing status))
 
 -- The style of an answer agrees with the request. The style has the requested format, and if there is no file of names,
 -- no termination has a name. (No contract says what a file contains, or which time zones the system has.)
@@ -82,10 +87,10 @@ pub record IsAsked (request : HeardRequest) (asked : Question) : Type 0 where
   pub query : IsQuery asked.style.names request.query asked.query
   pub at : asked.at ≡ request.at
 
--- The output for the script in a file or in the input.
+-- The output for the script in the input or in files.
 abbrev pub IsHeardFrom : HeardRequest → (before after : Option (List HostCall))
     → (input old new : Option (List ℕ)) → (Says : List ℕ → Type 0) → Status → Type 0
 IsHeardFrom request before after input old new Says status =
     (script : Option (List ℕ)) × (asked : Question)
-    × ReadsFrom request.file before after input script
+    × ReadsFiles request.file request.later before after input script
     × IsAsked request asked × IsHeard request asked script old new Says status

@@ -1,5 +1,6 @@
 pub mod Page
 pub mod Absence
+pub mod Files
 pub mod Heard
 pub mod Audible
 pub mod Watched

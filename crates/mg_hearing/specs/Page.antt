@@ -1,9 +1,10 @@
 -- The page (HTML) that `mg_bridge heard --report` prints. Its fixed parts are constants of the program. Between them
 -- are escaped texts and the rows of a table.
 use Rattle.std.specs.Prelude.{◌≡◌, ℕ, ◌==◌, List, [], ◌∷◌, ◌++◌}
-use Rattle.std.specs.Prelude.{Option, Some, None, codes, filter, unwrap_or, IfSome, if◌then◌else◌}
+use Rattle.std.specs.Prelude.{◌-◌, Option, Some, None, codes, filter, length, unwrap_or, IfSome, if◌then◌else◌}
 use Rattle.std.specs.Io.KnownBytes.{Appends}
-use Rattle.std.specs.List.{flat_map}
+use Rattle.std.specs.List.{flat_map, slice_get}
+use Rattle.std.specs.Option.{option_map_or}
 use Rattle.hex.specs.Hex.{encode_lower}
 use Rattle.sha2.specs.Sha256.{sha256}
 use Rattle.mg_heard.specs.declared.entry.Entry.{Entry}
@@ -38,8 +39,10 @@ party_word None = codes "anyone"
 party_word (Some (Key key)) = party_name_text key
 party_word (Some (Name name)) = name
 
-abbrev pub script_name : Option (List ℕ) → List ℕ
-script_name file = unwrap_or file (codes "standard input")
+-- The name of a script: that of its first file, and that of the last one if there are several.
+abbrev pub script_name : (file : Option (List ℕ)) → (later : List (List ℕ)) → List ℕ
+script_name file later = unwrap_or file (codes "standard input")
+    ++ option_map_or (λ last. codes " to " ++ last) (slice_get later (length later - 1)) []
 
 -- ## The page
 
@@ -54,25 +57,24 @@ IsFilled (part ∷ parts) text =
 -- The part of a page before the table.
 abbrev pub front_parts : HeardRequest → List (List ℕ × Option (List ℕ))
 front_parts request =
-    (TITLE.now, Some (script_name request.file)) ∷ (ASKED.now, Some (script_name request.file))
+    (TITLE.now, Some (script_name request.file request.later)) ∷ (ASKED.now, Some (script_name request.file request.later))
     ∷ (LISTENER.now, Some (party_word request.query.listener))
     ∷ (TALKER.now, Some (party_word request.query.talker)) ∷ (FROM.now, None) ∷ (UNTIL.now, None)
     ∷ (ANSWER.now, Some []) ∷ []
 
--- The end of a command: the quoted name of a file, or a placeholder for the input, which has no name.
-abbrev pub last_words : Option (List ℕ) → List ℕ
-last_words None = codes " < FILE"
-last_words (Some name) = codes " -- " ++ quoted name
+-- The end of a command: the quoted names of files, or a placeholder for the input, which has no name.
+abbrev pub last_words : (file : Option (List ℕ)) → (later : List (List ℕ)) → List ℕ
+last_words None later = codes " < FILE"
+last_words (Some name) later = codes " -- " ++ (quoted name ++ flat_map (λ file. codes " " ++ quoted file) later)
 
 -- The end of a page. It states the timeline's scale after the table, the script with this digest, the program that
 -- wrote the page, and the command that makes the page.
-abbrev pub back_parts : (file : Option (List ℕ)) → (digest : List ℕ)
-    → List (List ℕ × Option (List ℕ))
-back_parts file digest =
+abbrev pub back_parts : HeardRequest → (digest : List ℕ) → List (List ℕ × Option (List ℕ))
+back_parts request digest =
     (TABLE_END.now, None) ∷ (TICKS.now, None) ∷ (WHOLE.now, Some [])
-    ∷ (SOURCE.now, Some (script_name file)) ∷ (SIZE.now, None) ∷ (HASH.now, Some digest)
+    ∷ (SOURCE.now, Some (script_name request.file request.later)) ∷ (SIZE.now, None) ∷ (HASH.now, Some digest)
     ∷ (TIME.now, None) ∷ (PROGRAM.now, None) ∷ (PROGRAM_HASH.now, None) ∷ (COMMAND.now, None)
-    ∷ ([], Some (last_words file)) ∷ (TRUST.now, Some []) ∷ []
+    ∷ ([], Some (last_words request.file request.later)) ∷ (TRUST.now, Some []) ∷ []
 
 -- If the text is known, these are the lower-case hexadecimal digits of its SHA-256.
 abbrev pub IsDigest : Option (List ℕ) → List ℕ → Type 0
@@ -86,5 +88,5 @@ WritesPage request asked script old new xs =
     (front : List ℕ) × (rows : List ℕ) × (digest : List ℕ) × (back : List ℕ)
     × IsFilled (front_parts request) front × IsDigest script digest
     × AreLines asked.style (filter (selects_entry asked.query) xs) rows
-    × IsFilled (back_parts request.file digest) back
+    × IsFilled (back_parts request digest) back
     × Appends old new (front ++ (head_of asked.style.format ++ (rows ++ back)))

@@ -16,7 +16,7 @@ use std::io::Write;
 /// Appends the line that reports a missing termination, or nothing if it isn't missing.
 fn push_line(
     alloc: Global,
-    name: &str,
+    name: &[u8],
     asked: &Option<Asked>,
     is_missing: bool,
     text: &mut Vec<u8>,
@@ -25,7 +25,7 @@ fn push_line(
 {
     if is_missing {
         let word = party_word(alloc, asked)?;
-        text.extend_from_slice(name.as_bytes())?;
+        text.extend_from_slice(name)?;
         text.extend_from_slice(b": ")?;
         text.extend_from_slice(word.as_slice())?;
         text.extend_from_slice(b" was never there\n")?;
@@ -36,7 +36,7 @@ fn push_line(
 /// Appends the lines for the missing terminations of all rules.
 fn push_all(
     alloc: Global,
-    name: &str,
+    name: &[u8],
     rules: &[AskedRule],
     missing: &[Missing],
     text: &mut Vec<u8>,
@@ -70,9 +70,10 @@ fn write_lines<E: Write>(text: &[u8], errors: &mut E) -> Result<(), Status>
 /// missing.
 fn lines_of(alloc: Global, request: &HeardRequest, missing: Missing) -> Result<Vec<u8>, AllocError>
     ensures value { IfOk result (λ text. text.items ≡
-        absences (script_name request.now.file) request.now.query.talker request.now.query.listener missing) }
+        absences (script_name request.now.file request.now.later) request.now.query.talker request.now.query.listener missing) }
 {
-    let name = script_name(&request.file);
+    let name = script_name(alloc, &request.file, &request.later)?;
+    let name = name.as_slice();
     let query = &request.query;
     let mut text = Vec::new(alloc);
     push_line(alloc, name, &query.talker, missing.talker, &mut text)?;
@@ -83,7 +84,7 @@ fn lines_of(alloc: Global, request: &HeardRequest, missing: Missing) -> Result<V
 /// Returns a line for each missing talker and for each missing listener of the rules.
 fn lines_of_rules(
     alloc: Global,
-    name: &str,
+    name: &[u8],
     rules: &[AskedRule],
     missing: &[Missing],
 ) -> Result<Vec<u8>, AllocError>
@@ -104,7 +105,7 @@ pub(crate) fn report_missing<E: Write>(
     errors: &mut E,
 ) -> Status
     ensures value { UnlessFault ((result ≡ status) × Receives E.contents errors.old errors.new
-        (absences (script_name request.now.file) request.now.query.talker request.now.query.listener missing)) result }
+        (absences (script_name request.now.file request.now.later) request.now.query.talker request.now.query.listener missing)) result }
 {
     let Ok(text) = lines_of(alloc, request, missing) else {
         return Status::NoMemory;
@@ -119,7 +120,7 @@ pub(crate) fn report_missing<E: Write>(
 /// unless the report fails.
 pub(crate) fn warn_of_missing<E: Write>(
     alloc: Global,
-    name: &str,
+    name: &[u8],
     rules: &[AskedRule],
     missing: &[Missing],
     status: Status,

@@ -9,9 +9,10 @@ use crate::page_text::{
     TRUST, WHOLE,
 };
 use crate::parts::write_parts;
+use crate::script_fault::ScriptFault;
 use crate::words::{first_words, last_words, script_name};
 use mg_arguments::HeardRequest;
-use mg_heard::{Extent, HeardFault, Moment, Scale};
+use mg_heard::{Extent, Moment, Scale};
 use mg_options::{TOOLCHAIN, VERSION};
 use std::alloc::Global;
 use std::io::{self, Write};
@@ -73,7 +74,7 @@ fn write_origin<W: Write>(
     origin: &Origin,
     output: &mut W,
 ) -> io::Result<()>
-    ensures value { OnOk result ((text : List ℕ) × IsOrigin request.now.file (take 64 origin.now.script.end) text
+    ensures value { OnOk result ((text : List ℕ) × IsOrigin request.now (take 64 origin.now.script.end) text
         × Appends (W.contents output.old) (W.contents output.new) text) }
 {
     let length = origin.script.length;
@@ -83,7 +84,8 @@ fn write_origin<W: Write>(
         Some(digest) => digest.digits(),
         None => b"not known".as_slice(),
     };
-    let name = escaped(alloc, script_name(&request.file).as_bytes())?;
+    let name = script_name(alloc, &request.file, &request.later)?;
+    let name = escaped(alloc, name.as_slice())?;
     let size = escaped(alloc, size.as_bytes())?;
     let digest = escaped(alloc, origin.script.digits())?;
     let covered = escaped(alloc, covered_time(alloc, &origin.extent)?.as_slice())?;
@@ -123,7 +125,7 @@ pub(crate) fn write_back<W: Write>(
     output: &mut W,
 ) -> io::Result<()>
     ensures value { OnOk result ((scale_text : List ℕ) × (origin_text : List ℕ) × IsScale scale_text
-        × IsOrigin request.now.file (take 64 origin.now.script.end) origin_text
+        × IsOrigin request.now (take 64 origin.now.script.end) origin_text
         × Appends (W.contents output.old) (W.contents output.new) (scale_text ++ origin_text)) }
 {
     write_scale(alloc, scale, output)?;
@@ -134,7 +136,7 @@ pub(crate) fn write_back<W: Write>(
 pub(crate) fn write_broken<W: Write>(
     alloc: Global,
     request: &HeardRequest,
-    fault: &HeardFault,
+    fault: &ScriptFault,
     origin: &Origin,
     output: &mut W,
 ) -> io::Result<()> {

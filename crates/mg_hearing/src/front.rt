@@ -19,7 +19,8 @@ pub(crate) fn write_front<W: Write>(
     ensures value { OnOk result ((front : List ℕ) × IsFront request.now front
         × Appends (W.contents output.old) (W.contents output.new) front) }
 {
-    let name = escaped(alloc, script_name(&request.file).as_bytes())?;
+    let name = script_name(alloc, &request.file, &request.later)?;
+    let name = escaped(alloc, name.as_slice())?;
     let listener = shown_party(alloc, &request.query.listener)?;
     let talker = shown_party(alloc, &request.query.talker)?;
     let from = time_word(request.query.from, b"the beginning");

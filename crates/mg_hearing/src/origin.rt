@@ -21,7 +21,7 @@ pub(crate) struct Origin {
 }
 
 impl Origin {
-    /// Returns the origin of a page about the script of a reader.
+    /// Returns the origin of a page about the script that `reader` supplies.
     pub(crate) fn of<F: Files, R: Read, K: TextKey>(
         files: &F,
         script: &Hashed<R, K>,

@@ -1,13 +1,13 @@
 //! The words of a request, as a page and its command state them.
 
-ghost use Rattle.std.specs.Prelude.{◌≡◌, IfOk};
+ghost use Rattle.std.specs.Prelude.{◌≡◌, ◌++◌, IfOk, OnOk, codes, flat_map};
 ghost use Rattle.mg_heard.specs.Query.{party_name_text};
 ghost use Rattle.mg_heard.specs.Escaped.{escaped};
-ghost use Rattle.mg_hearing.specs.Page.{last_words, party_word, script_name};
+ghost use Rattle.mg_hearing.specs.Page.{last_words, party_word, quoted, script_name};
 
 use crate::escaping::{escaped, quoted};
 use crate::faults::INPUT;
-use mg_arguments::{FilePath, HeardRequest, Printing};
+use mg_arguments::{FilePath, FilePaths, HeardRequest, Printing};
 use mg_dates::{Date, TimeText};
 use mg_heard::{Asked, PartyName};
 use mg_reply::Bytes;
@@ -16,14 +16,25 @@ use std::alloc::{AllocError, Global};
 /// The maximum length of a key, in bytes.
 const KEY_ROOM: usize = 32;
 
-/// Returns the name of a script: the path of its file, or the name of standard input if `file` is `None`.
-pub(crate) fn script_name(file: &Option<FilePath>) -> &str
-    ensures value { result.now ≡ script_name file.now }
+/// Returns the name of a script: the path of its file, or the name of standard input if `file` is `None`. If there are
+/// later files, the path of the last one is added.
+pub(crate) fn script_name(
+    alloc: Global,
+    file: &Option<FilePath>,
+    later: &FilePaths,
+) -> Result<Vec<u8>, AllocError>
+    ensures value { IfOk result (λ name. name.items ≡ script_name file.now later.now) }
 {
-    match file {
+    let first = match file {
         Some(path) => path.as_str(),
         None => INPUT,
+    };
+    let mut name = Vec::from_slice(alloc, first.as_bytes())?;
+    if let Some(last) = later.as_slice().last() {
+        name.extend_from_slice(b" to ")?;
+        name.extend_from_slice(last.as_str().as_bytes())?;
     }
+    Ok(name)
 }
 
 /// Returns the text of a key.
@@ -66,10 +77,30 @@ pub(crate) fn time_word(time: Option<Date>, otherwise: &[u8]) -> TimeText {
     }
 }
 
-/// Returns the end of the command that makes a request's page: the script's name as one word, or the redirection of the
-/// input.
+/// Appends the name of a file to a command, as one word.
+fn push_file(alloc: Global, file: &FilePath, words: &mut Vec<u8>) -> Result<(), AllocError>
+    ensures value { OnOk result (words.new.items ≡ words.old.items ++ (codes " " ++ quoted file.now)) }
+{
+    let name = quoted(alloc, file.as_str().as_bytes())?;
+    words.extend_from_slice(b" ")?;
+    words.extend_from_slice(name.as_slice())
+}
+
+/// Appends the names of files to a command, each as one word.
+fn push_files(alloc: Global, files: &[FilePath], words: &mut Vec<u8>) -> Result<(), AllocError>
+    ensures value { OnOk result (words.new.items ≡
+        words.old.items ++ flat_map (λ file. codes " " ++ quoted file) files.now) }
+{
+    for file in files {
+        push_file(alloc, file, words)?;
+    }
+    Ok(())
+}
+
+/// Returns the end of the command that makes a request's page: the names of the files, each as one word, or the
+/// redirection of the input.
 pub(crate) fn last_words(alloc: Global, request: &HeardRequest) -> Result<Vec<u8>, AllocError>
-    ensures value { IfOk result (λ words. words.items ≡ last_words request.now.file) }
+    ensures value { IfOk result (λ words. words.items ≡ last_words request.now.file request.now.later) }
 {
     let mut words = Vec::new(alloc);
     match &request.file {
@@ -77,6 +108,7 @@ pub(crate) fn last_words(alloc: Global, request: &HeardRequest) -> Result<Vec<u8
             let name = quoted(alloc, path.as_str().as_bytes())?;
             words.extend_from_slice(b" -- ")?;
             words.extend_from_slice(name.as_slice())?;
+            push_files(alloc, request.later.as_slice(), &mut words)?;
         }
         None => words.extend_from_slice(b" < FILE")?,
     }

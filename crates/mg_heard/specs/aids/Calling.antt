@@ -2,8 +2,8 @@
 use Rattle.std.specs.Prelude.{◌≡◌, ◌&&◌, not, List, Option, is_some}
 use Rattle.std.specs.List.{AllZip}
 use Rattle.mg_engine.specs.Gateway.{Gateway}
-use Rattle.mg_engine.specs.declared.config.Config.{Config}
 use Rattle.mg_core.specs.declared.event.Event.{Event}
+use Rattle.mg_core.specs.World.{World}
 use Rattle.mg_heard.specs.declared.missing.Missing.{Missing}
 use Rattle.mg_heard.specs.declared.party_name.PartyName.{PartyName}
 use Rattle.mg_heard.specs.declared.roll.Roll.{Roll}
@@ -31,15 +31,15 @@ abbrev pub AreFor : List Rule → List Roll → Type 0
 AreFor rules rolls = AllZip (λ rule r. IsNew rule.talker rule.listener r) rules rolls
 
 -- Whether the talker and the listener are missing after these events.
-abbrev pub AreMissing : Config → List Event → (talker listener : Option (List PartyName)) → Missing → Type 0
-AreMissing config events talker listener missing =
-    IsMissing config events talker missing.talker × IsMissing config events listener missing.listener
+abbrev pub AreMissing : World → List Event → (talker listener : Option (List PartyName)) → Missing → Type 0
+AreMissing base events talker listener missing =
+    IsMissing base events talker missing.talker × IsMissing base events listener missing.listener
 
 -- After these events, the roll `now` is for the same terminations as `start`, and records who is missing.
-pub record IsCalled (config : Config) (events : List Event) (start now : Roll) : Type 0 where
+pub record IsCalled (base : World) (events : List Event) (start now : Roll) : Type 0 where
   pub talker_is : now.talker ≡ start.talker
   pub listener_is : now.listener ≡ start.listener
-  pub missing : AreMissing config events start.talker start.listener now.missing
+  pub missing : AreMissing base events start.talker start.listener now.missing
 
-abbrev pub AreCalled : Config → List Event → (start now : List Roll) → Type 0
-AreCalled config events start now = AllZip (IsCalled config events) start now
+abbrev pub AreCalled : World → List Event → (start now : List Roll) → Type 0
+AreCalled base events start now = AllZip (IsCalled base events) start now

@@ -1,8 +1,7 @@
 -- The state of a follower while a script runs, and the entries that it has reported.
 use Rattle.std.specs.Prelude.{◌≡◌, ℕ, Bool, false, List, [], ◌∷◌, length, reverse, Option}
-use Rattle.mg_engine.specs.declared.config.Config.{Config}
 use Rattle.mg_core.specs.Note.{Note, events_in}
-use Rattle.mg_core.specs.World.{start_of}
+use Rattle.mg_core.specs.World.{World}
 use Rattle.mg_heard.specs.declared.clock.Clock.{Clock}
 use Rattle.mg_heard.specs.declared.entry.Entry.{Entry}
 use Rattle.mg_heard.specs.declared.entry.Entry.TheVariants as entries
@@ -31,11 +30,11 @@ pub record TellsPast (past : List (List OpenFlow)) (stored : List OpenInterval)
 
 -- After these notes, a follower has reported the intervals that had ended before the last tick, and
 -- stores those that had not. If nothing can have changed since then, the same flows are open now.
-pub record KeepsOpen (config : Config) (notes : List Note) (tick : ℕ) (is_changed : Bool)
+pub record KeepsOpen (base : World) (notes : List Note) (tick : ℕ) (is_changed : Bool)
     (stored : List OpenInterval) (Told : List Entry → Type 0) : Type 0 where
   pub past : List (List OpenFlow)
   pub now : List OpenFlow
-  pub are : AreMoments (start_of config) (events_in notes) (reverse (now ∷ past))
+  pub are : AreMoments base (events_in notes) (reverse (now ∷ past))
   pub count : tick ≡ length past
   pub same : is_changed ≡ false → now ≡ newest past
   pub tells : TellsPast past stored Told
@@ -47,9 +46,9 @@ pub record TellsTimed (older : List Note) (tick : ℕ) (past : List (List OpenFl
   pub begun : AreBegun older tick stored
   pub tells : TellsPast past stored (Timed older tick Told)
 
-pub record KeepsHeard (config : Config) (notes : List Note) (clock : Clock) (is_changed : Bool)
+pub record KeepsHeard (base : World) (notes : List Note) (clock : Clock) (is_changed : Bool)
     (stored : List OpenInterval) (Told : List Entry → Type 0) : Type 0 where
   pub clock_is : IsClock (reverse notes) clock
   pub begun : AreBegun (reverse notes) (tick_count (reverse notes)) stored
-  pub opens : KeepsOpen config notes clock.ticks is_changed stored
+  pub opens : KeepsOpen base notes clock.ticks is_changed stored
       (Timed (reverse notes) (tick_count (reverse notes)) Told)

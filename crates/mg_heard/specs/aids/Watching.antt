@@ -1,9 +1,8 @@
 -- The state of a watch while a script runs.
 use Rattle.std.specs.Prelude.{◌≡◌, ◌&&◌, ℕ, Bool, false, List, ◌∷◌, find, length, reverse, Option, None}
 use Rattle.std.specs.Option.{option_map}
-use Rattle.mg_engine.specs.declared.config.Config.{Config}
 use Rattle.mg_core.specs.Note.{Note, events_in}
-use Rattle.mg_core.specs.World.{start_of}
+use Rattle.mg_core.specs.World.{World}
 use Rattle.mg_heard.specs.declared.open_flow.OpenFlow.{OpenFlow}
 use Rattle.mg_heard.specs.declared.rule.Rule.{Rule}
 use Rattle.mg_heard.specs.declared.violation.Violation.{Violation}
@@ -25,11 +24,11 @@ forbidden_at tick rules flows = option_map (λ x. (tick, x)) (forbidden_in rules
 
 -- After these notes, a watch has the first violation in the moments that are over. If there is none
 -- and nothing can have changed since then, no rule is broken now.
-pub record KeepsRules (rules : List Rule) (config : Config) (notes : List Note) (tick : ℕ)
+pub record KeepsRules (rules : List Rule) (base : World) (notes : List Note) (tick : ℕ)
     (is_changed : Bool) (violation : Option Violation) : Type 0 where
   pub past : List (List OpenFlow)
   pub now : List OpenFlow
-  pub are : AreMoments (start_of config) (events_in notes) (reverse (now ∷ past))
+  pub are : AreMoments base (events_in notes) (reverse (now ∷ past))
   pub first : option_map without_date violation ≡ first_forbidden rules 0 (reverse past)
   pub count : violation ≡ None → tick ≡ length past
   pub same : is_changed ≡ false → violation ≡ None → forbidden_in rules now ≡ None

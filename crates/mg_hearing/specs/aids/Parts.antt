@@ -20,8 +20,8 @@ pub record IsFront (request : HeardRequest) (front : List ℕ) : Type 0 where
   pub from : List ℕ
   pub until : List ℕ
   pub is : front ≡ concat (
-      TITLE.now ∷ escaped (script_name request.file) ∷ ASKED.now
-      ∷ escaped (script_name request.file) ∷ LISTENER.now
+      TITLE.now ∷ escaped (script_name request.file request.later) ∷ ASKED.now
+      ∷ escaped (script_name request.file request.later) ∷ LISTENER.now
       ∷ escaped (party_word request.query.listener) ∷ TALKER.now
       ∷ escaped (party_word request.query.talker) ∷ FROM.now ∷ escaped from ∷ UNTIL.now
       ∷ escaped until ∷ ANSWER.now ∷ [])
@@ -34,17 +34,17 @@ pub record IsScale (text : List ℕ) : Type 0 where
       TABLE_END.now ∷ escaped scale ∷ TICKS.now ∷ escaped ticks ∷ WHOLE.now ∷ [])
 
 -- The end of a page: the script with this digest, the program that wrote the page, and the command that makes the page.
-pub record IsOrigin (file : Option (List ℕ)) (digest text : List ℕ) : Type 0 where
+pub record IsOrigin (request : HeardRequest) (digest text : List ℕ) : Type 0 where
   pub size : List ℕ
   pub covered : List ℕ
   pub program : List ℕ
   pub program_digest : List ℕ
   pub options : List ℕ
   pub is : text ≡ concat (
-      SOURCE.now ∷ escaped (script_name file) ∷ SIZE.now ∷ escaped size ∷ HASH.now
+      SOURCE.now ∷ escaped (script_name request.file request.later) ∷ SIZE.now ∷ escaped size ∷ HASH.now
       ∷ escaped digest ∷ TIME.now ∷ escaped covered ∷ PROGRAM.now ∷ escaped program
       ∷ PROGRAM_HASH.now ∷ escaped program_digest ∷ COMMAND.now ∷ escaped options
-      ∷ escaped (last_words file) ∷ TRUST.now ∷ [])
+      ∷ escaped (last_words request.file request.later) ∷ TRUST.now ∷ [])
 
 -- A writer has received the front of a page and a row for each entry that the query selects.
 abbrev pub WritesTable : HeardRequest → Question → (old new : Option (List ℕ)) → List Entry → Type 0

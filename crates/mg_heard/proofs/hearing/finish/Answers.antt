@@ -6,14 +6,14 @@ use Rattle.mg_heard.proofs.hearing.finish.Goals as goal
 
 pub returns-in-Ok : goal.returns-in-Ok
 returns-in-Ok g c = record {
-  value = λ start config notes run h.
+  value = λ start base notes run h.
       let older = reverse notes in
       let last = c.finish.new.self in
       let is : IsClock older last.clock =
       subst (λ (k : Clock). IsClock older k) (sym c.finish.ensures.clock) h.clock_is in
-      tells_weaker config notes (λ _. g.S.Sink.told start last.sink)
+      tells_weaker base notes (λ _. g.S.Sink.told start last.sink)
       (λ extent xs. g.S.Sink.told start last.sink xs × (c.extent-extent.result ≡ extent))
       (λ xs told. (told, c.extent-extent.ensures.value older is))
-      (c.in-Ok.ensures.value start config notes run h);
+      (c.in-Ok.ensures.value start base notes run h);
   stops = tt;
 }

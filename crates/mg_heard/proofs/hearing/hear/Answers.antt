@@ -1,44 +1,49 @@
-use Rattle.std.proofs.Common.{◌≡◌, List, subst}
+use Rattle.std.proofs.Common.{◌≡◌, ◌∷◌, List, [], ap, length, map, subst, ◌∙◌}
+use Rattle.std.specs.List.{refill}
 use Rattle.mg_core.specs.Follow.{IsFollowed}
 use Rattle.mg_core.specs.Note.{Note, events_in}
 use Rattle.mg_core.specs.declared.state.CoreState.{CoreState}
 use Rattle.mg_heard.specs.Told.{TellsAll}
-use Rattle.mg_heard.specs.aids.Calling.{AreCalled, AreMissing}
+use Rattle.mg_heard.specs.aids.Calling.{AreCalled, AreMissing, called}
 use Rattle.mg_heard.specs.aids.Keeping.{KeepsHeard}
-use Rattle.mg_heard.proofs.CallingLemmas.{followed_more, new_single, single}
+use Rattle.mg_heard.proofs.CallingLemmas.{first_single, followed_more, single}
+use Rattle.mg_heard.proofs.ContinueLemmas.{written}
 use Rattle.mg_heard.proofs.hearing.hear.Goals as goal
 
-pub returns-in_ok-sink-in-Ok-resume-clause-told : goal.returns-in_ok-sink-in-Ok-resume-clause-told
-returns-in_ok-sink-in-Ok-resume-clause-told g c talker listener told new =
-    let config = c.args.config in
+pub returns-in_ok-sink-in-Ok-resume_from-clause-told : goal.returns-in_ok-sink-in-Ok-resume_from-clause-told
+returns-in_ok-sink-in-Ok-resume_from-clause-told g c base talker listener stands told new =
     let first = c.in-Ok.follower in
-    let rolls = c.in-Ok-from_array.rolls.items in
-    let heard = c.resume.new.follower.follower in
-    let last = c.resume.new.follower.rolls.items in
+    let vec = c.in-Ok-from_array.rolls in
+    let at = c.deref_mut.ensures.value in
+    let rolls = refill vec.len vec.items c.call_all.new.rolls in
+    let is : rolls ≡ called base.gateway c.args.roll ∷ [] =
+    written vec.len vec.items c.call_all.new.rolls vec.ok.0 (c.call_all.auto.rolls ∙ ap length at)
+    ∙ c.call_all.ensures.value base stands ∙ ap (map (called base.gateway)) (at ∙ c.in-Ok-from_array.ensures.items) in
+    let heard = c.resume_from.new.follower.follower in
+    let last = c.resume_from.new.follower.rolls.items in
     let missing = c.missing_in-missing.result in
     let input = g.R.Read.remaining c.args.reader.now in
-    let rest = g.R.Read.remaining c.resume.new.reader in
-    let state = c.in-Ok-resume.core.state in
-    subst (λ (s : g.row.S.Denot). (state : CoreState) × IsFollowed config input rest state
-    (λ notes. AreMissing config (events_in notes) talker listener missing
-    × TellsAll config notes (λ extent xs. g.S.Sink.told s c.in_ok-sink-in-Ok-resume.sink xs
-    × (c.in_ok-sink-in-Ok-resume.extent ≡ extent))))
+    let rest = g.R.Read.remaining c.resume_from.new.reader in
+    let state = c.in-Ok-resume_from.core.state in
+    subst (λ (s : g.row.S.Denot). (state : CoreState) × IsFollowed base input rest state
+    (λ notes. AreMissing base (events_in notes) talker listener missing
+    × TellsAll base notes (λ extent xs. g.S.Sink.told s c.in_ok-sink-in-Ok-resume_from.sink xs
+    × (c.in_ok-sink-in-Ok-resume_from.extent ≡ extent))))
     c.in-Ok.ensures.sink (
       state,
-      followed_more config input rest state
-          (λ notes. KeepsHeard config notes heard.clock heard.is_changed heard.open (g.S.Sink.told first.sink heard.sink)
-          × AreCalled config (events_in notes) rolls last)
-          (λ notes. AreMissing config (events_in notes) talker listener missing
-          × TellsAll config notes (λ extent xs. g.S.Sink.told first.sink c.in_ok-sink-in-Ok-resume.sink xs
-          × (c.in_ok-sink-in-Ok-resume.extent ≡ extent)))
+      followed_more base input rest state
+          (λ notes. KeepsHeard base notes heard.clock heard.is_changed heard.open (g.S.Sink.told first.sink heard.sink)
+          × AreCalled base (events_in notes) rolls last)
+          (λ notes. AreMissing base (events_in notes) talker listener missing
+          × TellsAll base notes (λ extent xs. g.S.Sink.told first.sink c.in_ok-sink-in-Ok-resume_from.sink xs
+          × (c.in_ok-sink-in-Ok-resume_from.extent ≡ extent)))
           (λ notes run f. (
-            single config (events_in notes) talker listener c.args.roll rolls last missing
-                c.in-Ok-from_array.ensures.items new
-                (λ x is. c.missing_in-missing.ensures.value x (rw c.as_slice.ensures.value is)) f.1,
-            c.in_ok-sink-in-Ok-resume.ensures.value first.sink config notes run f.0,
+            single base (events_in notes) talker listener c.args.roll rolls last missing
+                is new (λ x one. c.missing_in-missing.ensures.value x (rw c.as_slice.ensures.value one)) f.1,
+            c.in_ok-sink-in-Ok-resume_from.ensures.value first.sink base notes run f.0,
           ))
-          (c.in-Ok-resume.ensures.followed (
-            c.in-Ok.ensures.start config told,
-            new_single config talker listener c.args.roll rolls c.in-Ok-from_array.ensures.items new,
+          (c.in-Ok-resume_from.ensures.followed base stands (
+            c.in-Ok.ensures.start base told,
+            first_single base talker listener c.args.roll rolls is new,
           )),
     )

@@ -13,11 +13,14 @@ returns g c =
     let query = first.query.now in
     let start : Reported = record { style = first.lines.now; query = query; written = held first.writer.now } in
     let now : Reported = record { style = last.lines.now; query = last.query.now; written = held last.writer.now } in
-    let told = c.in_ok-report.ensures.told query.talker query.listener (refl, reported_none start) c.in-Ok.ensures.value in
     record {
-      same_reference = told.1.follows.1.told.0.0;
-      reported = reported_all c.args.config (g.R.Read.remaining c.args.reader.now)
+      same_reference = λ base stands.
+          (c.in_ok-report.ensures.told base query.talker query.listener stands (refl, reported_none start)
+          c.in-Ok.ensures.value).1.follows.1.told.0.0;
+      reported = λ base stands. reported_all base (g.R.Read.remaining c.args.reader.now)
           (g.R.Read.remaining c.hear.new.reader)
-          (λ notes. AreMissing c.args.config (events_in notes) query.talker query.listener c.in_ok-report.missing) _
-          (λ extent xs. HasReported start now xs × (c.in_ok-report.extent ≡ extent)) (λ extent xs h. (h.0.1, h.1)) told;
+          (λ notes. AreMissing base (events_in notes) query.talker query.listener c.in_ok-report.missing) _
+          (λ extent xs. HasReported start now xs × (c.in_ok-report.extent ≡ extent)) (λ extent xs h. (h.0.1, h.1))
+          (c.in_ok-report.ensures.told base query.talker query.listener stands (refl, reported_none start)
+          c.in-Ok.ensures.value);
     }

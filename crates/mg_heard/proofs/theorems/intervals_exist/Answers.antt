@@ -1,6 +1,5 @@
 use Rattle.std.proofs.Common.{refl, arith}
 use Rattle.std.specs.Prelude.{reverse}
-use Rattle.mg_core.specs.World.{start_of}
 use Rattle.mg_heard.specs.Intervals.{intervals}
 use Rattle.mg_heard.proofs.MomentLemmas.{outcomes_more, some_moments}
 use Rattle.mg_heard.proofs.theorems.intervals_exist.Goals as goal
@@ -11,7 +10,7 @@ loop-event-preserved c = outcomes_more c.args.events.now c.loop-event.event-inde
 
 pub returns : goal.returns
 returns c = record {
-  theorem = λ config.
-      let (moments, are) = some_moments c.args.events.now c.loop-event.event-index (omega arith) c.loop-event.invariant (start_of config) in
+  theorem = λ base.
+      let (moments, are) = some_moments c.args.events.now c.loop-event.event-index (omega arith) c.loop-event.invariant base in
       (intervals (reverse moments), (moments, are, refl));
 }

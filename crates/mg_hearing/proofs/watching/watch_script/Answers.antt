@@ -4,7 +4,7 @@ use Rattle.mg_hearing.specs.Absence.{Receives}
 use Rattle.mg_hearing.specs.Page.{script_name}
 use Rattle.mg_hearing.specs.Watched.{IsAnswered, status_for}
 use Rattle.mg_hearing.specs.aids.Absences.{all_absences}
-use Rattle.mg_hearing.proofs.AbsenceLemmas.{receives_from, reported}
+use Rattle.mg_hearing.proofs.AbsenceLemmas.{reported}
 use Rattle.mg_hearing.proofs.WatchedLemmas.{is_answered}
 use Rattle.mg_hearing.proofs.watching.watch_script.Goals as goal
 
@@ -14,24 +14,21 @@ returns-in-Ok-write_violation g c =
     let alarm = c.args.alarm in
     let left = g.R.Read.remaining in
     let held = g.W.Write.contents in
-    let says = Receives g.E.Write.contents in
-    let line = c.in-Ok.title.0.items in
+    let said = Receives g.E.Write.contents c.args.errors.now c.end_watch.new.errors in
     let found = c.in-Ok-write_violation.found in
     let missing = c.in-Ok-write_violation.missing.items in
-    let errors = c.end_watch.new.errors in
-    let text = if is_some found then [] else all_absences (script_name request.file) request.rules missing in
-    let (first, is) = c.in-Ok.ensures.value in
+    let text = if is_some found then [] else all_absences (script_name request.file request.later) request.rules missing in
+    let (base, begins) = c.in-Ok.ensures.base in
     let h =
     rw (c.chain-script.ensures.bytes, c.as_slice.ensures.value, c.as_slice-2.ensures.value)
-    at c.in-Ok-write_violation.ensures.watched in
+    at (c.in-Ok-write_violation.ensures.watched base (c.in-Ok.ensures.started base begins)) in
     record {
       value = reported
           (λ (s : Status). IsAnswered request alarm (left c.args.reader.now) (held c.args.output.now)
-          (held c.write_violation.new.writer) (says c.args.errors.now errors) s)
-          (status_for found) c.end_watch.result (says c.read_title.new.errors errors text)
-          (λ said. is_answered request alarm c.in-Ok.title.1 (left c.args.reader.now) (left c.read_title.new.reader) _ line
-          (held c.args.output.now) (held c.write_violation.new.writer) found missing (says c.args.errors.now errors)
-          (status_for found) first is h c.in-Ok-write_violation.ensures.written refl
-          (receives_from g.E.Write.contents c.args.errors.now c.read_title.new.errors errors text c.in-Ok.ensures.silent said))
+          (held c.write_violation.new.writer) said s)
+          (status_for found) c.end_watch.result (said text)
+          (λ says. is_answered request alarm c.in_ok-front.field-0.start (left c.args.reader.now) (left c.begin.new.reader) _
+          c.in_ok-front.field-0.front.items base (held c.args.output.now) (held c.write_violation.new.writer) found missing said
+          (status_for found) c.in_ok-front.ensures.value begins h c.in-Ok-write_violation.ensures.written refl says)
           (rw c.as_slice-in-Ok-write_violation.ensures.value at c.end_watch.ensures.value);
     }

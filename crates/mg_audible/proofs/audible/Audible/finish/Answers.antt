@@ -6,13 +6,13 @@ use Rattle.mg_audible.proofs.audible.Audible.finish.Goals as goal
 
 pub returns : goal.returns
 returns g c = record {
-  value = λ start config notes valid h.
+  value = λ start base notes valid h.
       let old = c.args.self.now in
       let pair = old.pair in
       let Told = g.S.Sink.told start old.sink in
-      tells_all_on config pair.talker notes pair.whole.state pair.without.state old.clock c.as_slice.result.now Told
+      tells_all_on base pair.talker notes pair.whole.state pair.without.state old.clock c.as_slice.result.now Told
       (g.S.Sink.told start c.tell_audible.new.sink) c.tell_audible.result c.outcomes_are_unique.ensures.event
       c.differences_are_speech.ensures.theorem valid
-      (subst (λ (l : List OpenInterval). KeepsTimed config pair.talker notes pair.whole.state pair.without.state
+      (subst (λ (l : List OpenInterval). KeepsTimed base pair.talker notes pair.whole.state pair.without.state
       old.clock l Told) (sym c.as_slice.ensures.value) h) (c.tell_audible.ensures.value start);
 }

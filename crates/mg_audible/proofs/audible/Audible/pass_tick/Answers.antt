@@ -13,7 +13,7 @@ use Rattle.mg_audible.proofs.audible.Audible.pass_tick.Goals as goal
 
 pub returns-in-Ok : goal.returns-in-Ok
 returns-in-Ok g c = record {
-  value = λ start config notes h.
+  value = λ start base notes h.
       let old = c.args.self.now in
       let now = c.now-now.result in
       let older = reverse notes in
@@ -32,7 +32,7 @@ returns-in-Ok g c = record {
       (c.advance_to.ensures.value keeps.past rising (c.now-now.ensures.tick ∙ keeps.count) keeps.tells.lasts) in
       let (begun, over_begun) = c.advance_to.ensures.begun older rising keeps.tells.lasts.0 moment h.begun in
       let over = c.as_slice-2.ensures.value in
-      timed_tick config talker notes old.pair.whole.state old.pair.without.state pair.whole.state pair.without.state
+      timed_tick base talker notes old.pair.whole.state old.pair.without.state pair.whole.state pair.without.state
       old.clock c.pass_ticks.new.self now old.open c.advance_to.new.self c.as_slice-2.result.now
       (g.S.Sink.told start old.sink) (g.S.Sink.told start c.tell_audible.new.sink) c.in-Ok.ensures.ticks
       (c.in-Ok.ensures.value older h.clock_is) moment h stand lasts

@@ -13,9 +13,9 @@ returns-in-Ok g c =
     let is : c.args.event.now ≡ Control source c.as_slice.result.now =
     c.in-Control.is ∙ ap (Control source) (sym c.as_slice.ensures.value) in
     record {
-      value = λ start config notes h run. (
+      value = λ start base notes h run. (
         c.control.ensures.talker ∙ h.0,
-        timed_datagram config start.pair.talker notes c.args.event.now old.pair.whole.state old.pair.without.state
+        timed_datagram base start.pair.talker notes c.args.event.now old.pair.whole.state old.pair.without.state
             new.whole.state new.without.state old.clock old.clock old.open
             (g.S.Sink.told start.sink old.sink) refl
             (λ is. is) c.requires.datagram
@@ -36,9 +36,9 @@ returns-in-Media g c =
     let is : c.args.event.now ≡ Media port source c.as_slice-in-Media.result.now =
     c.in-Media.is ∙ ap (Media port source) (sym c.as_slice-in-Media.ensures.value) in
     record {
-      value = λ start config notes h run. (
+      value = λ start base notes h run. (
         c.media.ensures.talker ∙ h.0,
-        timed_datagram config start.pair.talker notes c.args.event.now old.pair.whole.state old.pair.without.state
+        timed_datagram base start.pair.talker notes c.args.event.now old.pair.whole.state old.pair.without.state
             new.whole.state new.without.state old.clock old.clock old.open
             (g.S.Sink.told start.sink old.sink) refl
             (λ is. is) c.requires.datagram

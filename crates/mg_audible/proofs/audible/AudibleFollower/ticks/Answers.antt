@@ -11,8 +11,8 @@ loop-init g c =
     let old = c.args.self.now in
     record {
       talker = refl;
-      keeps = λ start config notes h.
-          subst (λ (l : List Note). KeepsTimed config old.pair.talker l old.pair.whole.state old.pair.without.state
+      keeps = λ start base notes h.
+          subst (λ (l : List Note). KeepsTimed base old.pair.talker l old.pair.whole.state old.pair.without.state
           old.clock old.open (g.S.Sink.told start old.sink)) (sym (append-nil notes)) h;
     }
 
@@ -24,16 +24,16 @@ loop-preserved g c =
     let same = c.loop.invariant.talker in
     record {
       talker = c.in_ok-pass_tick.ensures.talker ∙ same;
-      keeps = λ start config notes h.
+      keeps = λ start base notes h.
           let Told = g.S.Sink.told start next.sink in
-          subst (λ (l : List Note). KeepsTimed config old.pair.talker l next.pair.whole.state next.pair.without.state
+          subst (λ (l : List Note). KeepsTimed base old.pair.talker l next.pair.whole.state next.pair.without.state
           next.clock next.open Told) (ticks_more notes c.loop.counter)
-          (subst (λ (n : ℕ). KeepsTimed config n ((notes ++ ticks_of c.loop.counter) ++ ticks_of 1)
+          (subst (λ (n : ℕ). KeepsTimed base n ((notes ++ ticks_of c.loop.counter) ++ ticks_of 1)
           next.pair.whole.state next.pair.without.state next.clock next.open Told) same
-          (c.in_ok-pass_tick.ensures.value start config (notes ++ ticks_of c.loop.counter)
-          (subst (λ (n : ℕ). KeepsTimed config n (notes ++ ticks_of c.loop.counter) now.pair.whole.state
+          (c.in_ok-pass_tick.ensures.value start base (notes ++ ticks_of c.loop.counter)
+          (subst (λ (n : ℕ). KeepsTimed base n (notes ++ ticks_of c.loop.counter) now.pair.whole.state
           now.pair.without.state now.clock now.open (g.S.Sink.told start now.sink)) (sym same)
-          (c.loop.invariant.keeps start config notes h))));
+          (c.loop.invariant.keeps start base notes h))));
     }
 
 pub returns : goal.returns
@@ -41,15 +41,15 @@ returns g c =
     let old = c.args.self.now in
     let now = c.loop.self in
     record {
-      value = λ start config notes h run.
+      value = λ start base notes h run.
           let all : c.loop.counter ≡ c.args.count = omega arith in (
             c.loop.invariant.talker ∙ h.0,
-            subst (λ (n : ℕ). KeepsTimed config start.pair.talker (notes ++ ticks_of n) now.pair.whole.state
+            subst (λ (n : ℕ). KeepsTimed base start.pair.talker (notes ++ ticks_of n) now.pair.whole.state
                 now.pair.without.state now.clock now.open (g.S.Sink.told start.sink now.sink)) all
-                (subst (λ (n : ℕ). KeepsTimed config n (notes ++ ticks_of c.loop.counter) now.pair.whole.state
+                (subst (λ (n : ℕ). KeepsTimed base n (notes ++ ticks_of c.loop.counter) now.pair.whole.state
                 now.pair.without.state now.clock now.open (g.S.Sink.told start.sink now.sink)) h.0
-                (c.loop.invariant.keeps start.sink config notes
-                (subst (λ (n : ℕ). KeepsTimed config n notes old.pair.whole.state old.pair.without.state
+                (c.loop.invariant.keeps start.sink base notes
+                (subst (λ (n : ℕ). KeepsTimed base n notes old.pair.whole.state old.pair.without.state
                 old.clock old.open (g.S.Sink.told start.sink old.sink)) (sym h.0) h.1))),
           );
       stops = tt;

@@ -12,7 +12,7 @@ use Rattle.mg_heard.proofs.heard.Heard.finish.Goals as goal
 
 pub returns : goal.returns
 returns g c = record {
-  value = λ start config notes (sent, w, (run, stands)) h.
+  value = λ start base notes (sent, w, (run, stands)) h.
       let one = c.outcomes_are_unique.ensures.event in
       let old = c.args.self.now in
       let mid = c.update.new.self in
@@ -22,13 +22,13 @@ returns g c = record {
       let Told = g.S.Sink.told start old.sink in
       let ToldNow = g.S.Sink.told start mid.sink in
       let ToldNext = g.S.Sink.told start c.tell_rows.new.sink in
-      let now = now_is one config notes old.clock.ticks old.is_changed old.open (Timed older (tick_count older) Told) sent
+      let now = now_is one base notes old.clock.ticks old.is_changed old.open (Timed older (tick_count older) Told) sent
       w run h.opens in
       let tells = subst (λ (l : List OpenInterval). TellsTimed older bound (open_flows w.gateway ∷ h.opens.past) l ToldNow)
       (sym c.as_slice.ensures.value)
       (c.in_ok-update.ensures.value w h.opens.past older start stands h.clock_is h.opens.count
       (λ e. sym now ∙ h.opens.same e) (record { begun = h.begun; tells = h.opens.tells })) in
-      tells_all_on one c.intervals_tell_the_flow.ensures.flow config notes old.clock.ticks bound old.is_changed old.open
+      tells_all_on one c.intervals_tell_the_flow.ensures.flow base notes old.clock.ticks bound old.is_changed old.open
       last (Timed older (tick_count older) Told) (Timed older bound ToldNow) ToldNext sent w c.tell_rows.result run h.opens
       tells.tells
       (timed_on older older bound bound ToldNow ToldNext (map (entry_until None) last) c.tell_rows.result

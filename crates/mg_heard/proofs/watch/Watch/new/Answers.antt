@@ -3,5 +3,5 @@ use Rattle.mg_heard.proofs.WatchLemmas.{watch_starts}
 use Rattle.mg_heard.proofs.watch.Watch.new.Goals as goal
 
 pub returns-clause-start : goal.returns-clause-start
-returns-clause-start c config =
-    watch_starts c.args.rules.now config c.new.result.ticks true None c.new.ensures.ticks refl refl
+returns-clause-start c base =
+    watch_starts c.args.rules.now base c.new.result.ticks true None c.new.ensures.ticks refl refl

@@ -7,9 +7,9 @@ pub returns-then-count-eq0 : goal.returns-then-count-eq0
 returns-then-count-eq0 c =
     let old = c.args.self.now in
     record {
-      value = λ start config notes (rules, h) run. (
+      value = λ start base notes (rules, h) run. (
         rules,
-        watches_no_tick start.rules.now config notes old.clock.ticks c.args.count old.is_changed old.violation
+        watches_no_tick start.rules.now base notes old.clock.ticks c.args.count old.is_changed old.violation
             c.if-count-eq0.true h,
       );
       stops = tt;
@@ -21,13 +21,13 @@ returns-then-is_some c =
     let old = c.args.self.now in
     let new = c.compare.new.self in
     record {
-      value = λ start config notes (rules, h) (sent, w, (run, stands)). (
+      value = λ start base notes (rules, h) (sent, w, (run, stands)). (
         c.compare.ensures.rules ∙ rules,
         watches_some_ticks one c.only_control_changes_flows.ensures.flows
-            start.rules.now config notes old.clock.ticks new.clock.ticks c.args.count old.is_changed new.is_changed
+            start.rules.now base notes old.clock.ticks new.clock.ticks c.args.count old.is_changed new.is_changed
             old.violation new.violation sent w c.if-count-eq0.false
             (λ none. absurd (true≢false (sym c.if-is_some.true ∙ c.is_some.ensures ∙ ap is_some none))) run h
-            (compared one start.rules.now config notes old.clock.ticks old.is_changed old.violation new.violation sent w
+            (compared one start.rules.now base notes old.clock.ticks old.is_changed old.violation new.violation sent w
             old.rules.now rules run h (c.compare.ensures.value w stands)),
       );
       stops = tt;
@@ -39,13 +39,13 @@ returns-in-Ok c =
     let old = c.args.self.now in
     let new = c.compare.new.self in
     record {
-      value = λ start config notes (rules, h) (sent, w, (run, stands)). (
+      value = λ start base notes (rules, h) (sent, w, (run, stands)). (
         c.compare.ensures.rules ∙ rules,
         watches_some_ticks one c.only_control_changes_flows.ensures.flows
-            start.rules.now config notes old.clock.ticks c.pass_ticks.new.self.ticks c.args.count old.is_changed
+            start.rules.now base notes old.clock.ticks c.pass_ticks.new.self.ticks c.args.count old.is_changed
             new.is_changed old.violation new.violation sent w c.if-count-eq0.false
             (λ none. c.in-Ok.ensures.ticks ∙ ap (λ clock. clock.ticks + c.args.count) c.compare.ensures.clock) run h
-            (compared one start.rules.now config notes old.clock.ticks old.is_changed old.violation new.violation sent w
+            (compared one start.rules.now base notes old.clock.ticks old.is_changed old.violation new.violation sent w
             old.rules.now rules run h (c.compare.ensures.value w stands)),
       );
       stops = tt;

@@ -1,0 +1,4 @@
+pub mod FollowsLemmas
+pub mod LineLemmas
+pub mod LaterLemmas
+pub mod JoinLemmas

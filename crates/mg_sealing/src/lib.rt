@@ -11,8 +11,10 @@
 
 mod report;
 mod sealing;
+mod series;
 pub mod theorems;
 mod verifying;
 
 pub use crate::sealing::seal;
+pub use crate::series::Series;
 pub use crate::verifying::{verify_input, verify_text};

@@ -1,5 +1,5 @@
 -- The requests that the options of `mg_bridge heard` make.
-use Rattle.std.proofs.Common.{◌≡◌, ◌∙◌, Bool, true, false, List, [], ◌∷◌, Option, Some, None, Result, Ok, Err, IfErr, IfOk, ap, codes, sym}
+use Rattle.std.proofs.Common.{◌≡◌, ◌∙◌, Bool, true, false, List, [], ◌∷◌, Option, Some, None, Result, Ok, Err, ap, codes, sym}
 use Rattle.std.specs.Prelude.{ok_or, unwrap_or, if◌then◌else◌}
 use Rattle.std.specs.Option.{option_map_or}
 use Rattle.clap.specs.Walk.{Row, Text, first_of}
@@ -17,8 +17,11 @@ use Rattle.mg_arguments.specs.declared.heard_request.HeardRequest.{HeardRequest}
 use Rattle.mg_arguments.specs.declared.invocation.Invocation.{Invocation}
 use Rattle.mg_arguments.specs.declared.printing.Printing.{Printing}
 use Rattle.mg_arguments.specs.FilePath.{file_path}
-use Rattle.mg_arguments.specs.Options.{asked_in, form_in, format_of, is_set, named_by, printing_in, query_in, request_in, reshapes_page, valid, value_by}
+use Rattle.mg_arguments.specs.Options.{asked_in, form_in, format_of, is_set, later_in, named_by, printing_in, query_in, request_in, reshapes_page, valid, value_by}
 use Rattle.mg_arguments.specs.ZoneName.{zone_name}
+use Rattle.mg_arguments.specs.aids.Options.{PathsAre, Refuses}
+use Rattle.mg_arguments.specs.declared.option_fault.OptionFault.{OptionFault}
+use Rattle.mg_arguments.specs.declared.option_fault.OptionFault.TheVariants.{Invalid, NoMemory}
 
 abbrev valid_value : {A : Type 0} → Option A → Result (Option A) Kinds
 valid_value read = ok_or read (ValueValidation ∷ []) >>= (λ value. Ok (Some value))
@@ -213,16 +216,21 @@ refuses_names rows format zone fault is placed none =
 
 -- ## The question
 
-abbrev with_file : AskedQuery → Option Date → Printing → Option Text → Result HeardRequest Kinds
-with_file query time printing file = Ok (record {
+abbrev with_later : AskedQuery → Option Date → Printing → Option Text → List Text → Result HeardRequest Kinds
+with_later query time printing file later = Ok (record {
   file = file;
+  later = later;
   printing = printing;
   query = query;
   at = time;
 })
 
+abbrev with_file : List Row → AskedQuery → Option Date → Printing → Option Text → Result HeardRequest Kinds
+with_file rows query time printing file = valid (later_in rows) >>= with_later query time printing file
+
 abbrev with_printing : List Row → AskedQuery → Option Date → Printing → Result HeardRequest Kinds
-with_printing rows query time printing = valid (named_by file_path (codes "file") rows) >>= with_file query time printing
+with_printing rows query time printing =
+    valid (named_by file_path (codes "file") rows) >>= with_file rows query time printing
 
 abbrev with_time : List Row → AskedQuery → Option Date → Result HeardRequest Kinds
 with_time rows query time = printing_in rows >>= with_printing rows query time
@@ -246,14 +254,23 @@ at_printing rows query time printing is timed formed =
     at_time rows query time is timed ∙
     goes_on printing (printing_in rows) (with_printing rows query time) formed
 
-pub heard_is : (rows : List Row) (query : AskedQuery) (time : Option Date) (printing : Printing) (file : Option Text) →
+at_file : (rows : List Row) (query : AskedQuery) (time : Option Date) (printing : Printing) (file : Option Text) →
     query_in rows ≡ Ok query → value_by date_of_text (codes "at") rows ≡ Ok time →
     printing_in rows ≡ Ok printing → Ok file ≡ named_by file_path (codes "file") rows →
-    request_in rows ≡ with_file query time printing file
-heard_is rows query time printing file is timed formed named =
+    request_in rows ≡ with_file rows query time printing file
+at_file rows query time printing file is timed formed named =
     at_printing rows query time printing is timed formed ∙
-    goes_on file (valid (named_by file_path (codes "file") rows)) (with_file query time printing)
+    goes_on file (valid (named_by file_path (codes "file") rows)) (with_file rows query time printing)
     (ap (λ (r : Result (Option Text) FilePathFault). valid r) (sym named))
+
+pub heard_is : (rows : List Row) (query : AskedQuery) (time : Option Date) (printing : Printing) (file : Option Text)
+    (later : List Text) → query_in rows ≡ Ok query → value_by date_of_text (codes "at") rows ≡ Ok time →
+    printing_in rows ≡ Ok printing → Ok file ≡ named_by file_path (codes "file") rows → later_in rows ≡ Ok later →
+    request_in rows ≡ with_later query time printing file later
+heard_is rows query time printing file later is timed formed named others =
+    at_file rows query time printing file is timed formed named ∙
+    goes_on later (valid (later_in rows)) (with_later query time printing file)
+    (ap (λ (r : Result (List Text) FilePathFault). valid r) others)
 
 pub refuses_query : (rows : List Row) → query_in rows ≡ Err (ValueValidation ∷ []) →
     request_in rows ≡ Err (ValueValidation ∷ [])
@@ -280,29 +297,29 @@ pub refuses_file : (rows : List Row) (query : AskedQuery) (time : Option Date) (
     request_in rows ≡ Err (ValueValidation ∷ [])
 refuses_file rows query time printing fault is timed formed none =
     at_printing rows query time printing is timed formed ∙
-    ends (ValueValidation ∷ []) (valid (named_by file_path (codes "file") rows)) (with_file query time printing)
+    ends (ValueValidation ∷ []) (valid (named_by file_path (codes "file") rows)) (with_file rows query time printing)
     (ap (λ (r : Result (Option Text) FilePathFault). valid r) (sym none))
+
+-- The paths of the later files can't be used, or memory ran out.
+pub refuses_later : (rows : List Row) (query : AskedQuery) (time : Option Date) (printing : Printing)
+    (file : Option Text) (fault : OptionFault) → query_in rows ≡ Ok query →
+    value_by date_of_text (codes "at") rows ≡ Ok time → printing_in rows ≡ Ok printing →
+    Ok file ≡ named_by file_path (codes "file") rows → PathsAre (later_in rows) (Err fault) →
+    Refuses fault (request_in rows)
+refuses_later rows query time printing file NoMemory is timed formed named none = tt
+refuses_later rows query time printing file (Invalid message) is timed formed named (fault, none) =
+    at_file rows query time printing file is timed formed named ∙
+    ends (ValueValidation ∷ []) (valid (later_in rows)) (with_later query time printing file)
+    (ap (λ (r : Result (List Text) FilePathFault). valid r) none)
 
 -- ## The run for a question
 
-asks : (f : HeardRequest → Result Invocation Kinds) (rows : List Row) (request : HeardRequest)
+pub asks : (f : HeardRequest → Result Invocation Kinds) (rows : List Row) (request : HeardRequest)
     (answer : Result Invocation Kinds) → request_in rows ≡ Ok request → f request ≡ answer →
     (request_in rows >>= f) ≡ answer
 asks f rows request answer is e = goes_on request (request_in rows) f is ∙ e
 
-pub refuses_request : (f : HeardRequest → Result Invocation Kinds) (rows : List Row) →
-    request_in rows ≡ Err (ValueValidation ∷ []) → (request_in rows >>= f) ≡ Err (ValueValidation ∷ [])
-refuses_request f rows none = ends (ValueValidation ∷ []) (request_in rows) f none
-
-pub answers : {E : Type 0} (f : HeardRequest → Result Invocation Kinds) (rows : List Row) (request : HeardRequest)
-    (result : Result Invocation E) → request_in rows ≡ Ok request → IfOk result (λ run. f request ≡ Ok run) →
-    IfOk result (λ run. (request_in rows >>= f) ≡ Ok run)
-answers f rows request (Ok run) is h = asks f rows request (Ok run) is h
-answers f rows request (Err error) is h = tt
-
-pub refuses_of : {E : Type 0} (f : HeardRequest → Result Invocation Kinds) (rows : List Row) (request : HeardRequest)
-    (result : Result Invocation E) → request_in rows ≡ Ok request →
-    IfErr result (λ e. f request ≡ Err (ValueValidation ∷ [])) →
-    IfErr result (λ e. (request_in rows >>= f) ≡ Err (ValueValidation ∷ []))
-refuses_of f rows request (Ok run) is h = tt
-refuses_of f rows request (Err error) is h = asks f rows request (Err (ValueValidation ∷ [])) is h
+pub refuses_request : (f : HeardRequest → Result Invocation Kinds) (rows : List Row) (fault : OptionFault) →
+    Refuses fault (request_in rows) → Refuses fault (request_in rows >>= f)
+refuses_request f rows NoMemory none = tt
+refuses_request f rows (Invalid message) none = ends (ValueValidation ∷ []) (request_in rows) f none

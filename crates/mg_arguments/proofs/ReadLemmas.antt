@@ -31,3 +31,8 @@ pub next_read : {X A E : Type 0} (read : List ℕ → Result A E) (now : X → L
 next_read read now texts i d value done lt is =
     at_drop_more (λ rest. then_read done (all_read read (map now rest))) texts i d lt ∙
     one_read read done (now (get_or texts i d)) (map now (drop (i + 1) texts)) value is
+
+-- The strings after the first one.
+pub later_texts : {X : Type 0} (now : X → List ℕ) (texts : List X) → map now (drop 1 texts) ≡ drop 1 (map now texts)
+later_texts now [] = refl
+later_texts now (text ∷ texts) = refl

@@ -45,6 +45,7 @@ anybody report = record {
   metrics = None;
   journal = None;
   durability = Written;
+  checkpoint_every = 0;
   fence = None;
   fence_from = None;
   given = none_given;
@@ -118,6 +119,11 @@ serve_syncs : requested (codes "serve" ∷ codes "--sync" ∷ codes "--journal" 
     Ok (Serve standard (record (anybody 0) { journal = Some (codes "j.txt"); durability = Synced }))
 unfolding requested command_line options config_at clap_on_literals
 serve_syncs = refl
+
+serve_renews : requested (codes "serve" ∷ codes "--journal=j.txt" ∷ codes "--checkpoint-every=50" ∷ []) ≡
+    Ok (Serve standard (record (anybody 0) { journal = Some (codes "j.txt"); checkpoint_every = 50 }))
+unfolding requested command_line options config_at clap_on_literals
+serve_renews = refl
 
 sync_without_a_journal : requested (codes "live" ∷ codes "--sync" ∷ []) ≡ Err (kind.ValueValidation ∷ [])
 unfolding requested command_line options config_at clap_on_literals

@@ -5,6 +5,7 @@ pub mod Rules
 pub mod ZoneName
 pub mod Options
 pub mod Title
+pub mod Script
 pub mod Draws
 pub mod Given
 pub mod FilePath

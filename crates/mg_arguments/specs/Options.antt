@@ -1,7 +1,7 @@
 -- The command line, as its parser represents it, and the run that the arguments request.
 use Rattle.std.specs.Prelude.{ℕ, Bool, true, false, if◌then◌else◌, List, [], ◌∷◌, Option, Some}
 use Rattle.std.specs.Prelude.{None, is_none, is_some, unwrap_or, option_and_then, ok_or, Result, Ok, Err}
-use Rattle.std.specs.Prelude.{codes, fold, length, ◌||◌, ◌&&◌, ◌==◌}
+use Rattle.std.specs.Prelude.{codes, drop, fold, length, ◌||◌, ◌&&◌, ◌==◌}
 use Rattle.std.specs.Option.{option_map_or}
 use Rattle.std.specs.Str.{bytes_eq}
 use Rattle.clap.specs.Walk.{Row, Rule, Text, all_of, first_of}
@@ -44,6 +44,8 @@ use Rattle.mg_arguments.specs.declared.controller_fault.ControllerFault.{Control
 use Rattle.mg_arguments.specs.Address.{bind_addresses_of, own_address}
 use Rattle.mg_arguments.specs.Controllers.{controllers_of}
 use Rattle.mg_arguments.specs.FilePath.{file_path}
+use Rattle.mg_arguments.specs.Read.{all_read}
+use Rattle.mg_arguments.specs.declared.file_path_fault.FilePathFault.{FilePathFault}
 use Rattle.mg_arguments.specs.declared.rule_fault.RuleFault.{RuleFault}
 use Rattle.mg_arguments.specs.Rules.{rules_of}
 use Rattle.mg_arguments.specs.ZoneName.{zone_name}
@@ -79,7 +81,7 @@ sockets_line name =
     ∷ repeated_rule (codes "controller")
     ∷ number_rule (codes "report") 0 65535 ∷ flag_rule (codes "record")
     ∷ flag_rule (codes "symmetric-rtp") ∷ text_rule (codes "journal") ∷ flag_rule (codes "sync")
-    ∷ flag_rule (codes "fence") ∷ flag_rule (codes "fence-strict")
+    ∷ number_rule (codes "checkpoint-every") 0 4294967295 ∷ flag_rule (codes "fence") ∷ flag_rule (codes "fence-strict")
     ∷ number_rule (codes "fence-from") 0 4294967295 ∷ [])
 
 -- The subcommand that runs a script.
@@ -98,9 +100,13 @@ check_line = with_rule (with_rule (new_app (codes "check")) gateway_rule) (text_
 abbrev pub script_rule : Rule
 script_rule = record (new_rule (codes "file")) { value_names = 1 }
 
--- The script and the options of the subcommand that reports who could hear whom.
+-- The argument that names the files of a script. It may be given several times.
+abbrev pub files_rule : Rule
+files_rule = record script_rule { action = Some Append }
+
+-- The files and the options of the subcommand that reports who could hear whom.
 unfoldable pub heard_options : List Rule
-heard_options = script_rule ∷ text_rule (codes "listener") ∷ text_rule (codes "talker")
+heard_options = files_rule ∷ text_rule (codes "listener") ∷ text_rule (codes "talker")
     ∷ text_rule (codes "at") ∷ text_rule (codes "from") ∷ text_rule (codes "to")
     ∷ flag_rule (codes "audible") ∷ repeated_rule (codes "never") ∷ text_rule (codes "zone")
     ∷ text_rule (codes "names") ∷ text_rule (codes "format") ∷ flag_rule (codes "report") ∷ []
@@ -111,7 +117,7 @@ heard_line = fold with_rule (new_app (codes "heard")) heard_options
 
 -- The subcommand that checks seals.
 abbrev pub verify_line : App
-verify_line = with_rule (new_app (codes "verify")) script_rule
+verify_line = with_rule (new_app (codes "verify")) files_rule
 
 -- The subcommand that adds seals to a recording.
 abbrev pub seal_line : App
@@ -224,6 +230,7 @@ service_in found = do
     metrics = metrics;
     journal = journal;
     durability = durability;
+    checkpoint_every = number_or 4294967296 (codes "checkpoint-every") 0 found;
     fence = fence;
     fence_from = number_given 4294967296 (codes "fence-from") found;
     given = given_in found;
@@ -311,6 +318,10 @@ printing_in found = do
   names ← valid (named_by file_path (codes "names") found)
   Ok (record { format = format; zone = zone; names = names })
 
+-- The files after the first one.
+abbrev pub later_in : List Row → Result (List (List ℕ)) FilePathFault
+later_in found = all_read file_path (drop 1 (unwrap_or (all_of (codes "file") found) []))
+
 -- The question that the options ask about a script.
 abbrev pub request_in : List Row → Result HeardRequest Kinds
 request_in found = do
@@ -318,8 +329,10 @@ request_in found = do
   time ← value_by date_of_text (codes "at") found
   printing ← printing_in found
   file ← valid (named_by file_path (codes "file") found)
+  later ← valid (later_in found)
   Ok (record {
     file = file;
+    later = later;
     printing = printing;
     query = query;
     at = time;
@@ -365,8 +378,10 @@ watch_in found = do
   rules ← valid (rules_in found)
   printing ← printing_in found
   file ← valid (named_by file_path (codes "file") found)
+  later ← valid (later_in found)
   if selects_part found then Err (ValueValidation ∷ []) else Ok (Watch (record {
     file = file;
+    later = later;
     printing = printing;
     rules = rules;
   }))
@@ -378,9 +393,12 @@ script_in found =
     else (if is_set (codes "audible") found then request_in found >>= audible_of
     else request_in found >>= heard_of)
 
--- The check of the seals in a file, or in the input.
+-- The check of the seals in files, or in the input.
 abbrev pub verify_in : List Row → Result Invocation Kinds
-verify_in found = valid (named_by file_path (codes "file") found) >>= (λ file. Ok (Verify file))
+verify_in found = do
+  file ← valid (named_by file_path (codes "file") found)
+  later ← valid (later_in found)
+  Ok (Verify file later)
 
 -- The run that a subcommand requests with these options and arguments.
 abbrev pub run_in : Text → List Row → Result Invocation Kinds

@@ -18,7 +18,7 @@ impl FilePathFault {
         }
     }
 
-    /// Returns the error text for a script.
+    /// Returns the error text for a script's path.
     pub fn script_message(self) -> &'static str {
         match self {
             FilePathFault::Empty => "invalid value for '[FILE]': an empty path",

@@ -7,11 +7,14 @@ ghost use Rattle.mg_dates.specs.Dates.{date_of_text};
 ghost use Rattle.mg_options.specs.Line.{text_rule};
 ghost use Rattle.mg_arguments.specs.ZoneName.{zone_name};
 ghost use Rattle.mg_arguments.specs.aids.Asking.{request_for};
-ghost use Rattle.mg_arguments.specs.Options.{asked_in, asks_for_two_times, audible_of, form_in, format_of, heard_line, heard_of, heard_options, number_named, printing_in, query_in, repeated_rule, request_in, reshapes_page, rules_in, script_in, script_rule, selects_part, value_by, watch_in};
+ghost use Rattle.mg_arguments.specs.aids.Options.{PathsAre, Refuses};
+ghost use Rattle.mg_arguments.specs.Options.{asked_in, asks_for_two_times, audible_of, files_rule, form_in, format_of, heard_line, heard_of, heard_options, later_in, number_named, printing_in, query_in, repeated_rule, request_in, reshapes_page, rules_in, script_in, selects_part, value_by, watch_in};
 
 use crate::audible_request::AudibleRequest;
+use crate::file_paths::FilePaths;
 use crate::heard_request::HeardRequest;
 use crate::invocation::Invocation;
+use crate::option_fault::OptionFault;
 use crate::options::{file_of, flag, is_given, is_set};
 use crate::printing::Printing;
 use crate::rule_fault::RuleFault;
@@ -77,22 +80,25 @@ fn never_option<'a>(alloc: Global) -> Arg<'a>
         )
 }
 
-/// Creates the argument that names a script.
-pub(crate) fn script_argument<'a>(alloc: Global) -> Arg<'a>
-    ensures rule { rule_of result ≡ script_rule }
+/// Creates the argument that names the files of a script.
+pub(crate) fn files_argument<'a>(alloc: Global) -> Arg<'a>
+    ensures rule { rule_of result ≡ files_rule }
 {
     Arg::new(alloc, "file")
         .value_name("FILE")
-        .help("Journal or recording [default: standard input]")
+        .action(ArgAction::Append)
+        .help(
+            "Journal or recording, or journals that follow one another, oldest first [default: standard input]",
+        )
 }
 
-/// Adds the argument that names a script, and the options that select terminations and a time.
+/// Adds the argument that names the files of a script, and the options that select terminations and a time.
 fn with_question<'a>(alloc: Global, command: Command<'a>) -> Result<Command<'a>, Error>
     ensures app { IfOk result (λ with. app_of with ≡ fold with_rule (app_of command.entry) (take 4 heard_options)) }
     ensures memory { IfErr result (λ error. kind_of error ≡ ErrorKind.OutOfMemory) }
 {
     let command = command
-        .arg(script_argument(alloc))?
+        .arg(files_argument(alloc))?
         .arg(option(alloc, "listener", "NAME").help(
             "Only this listener: RTP/1, the IPv4 address of its Remote with or without the port, or a name",
         ))?
@@ -103,7 +109,7 @@ fn with_question<'a>(alloc: Global, command: Command<'a>) -> Result<Command<'a>,
     Ok(command)
 }
 
-/// Adds the argument that names a script, and the option for rules. Also adds the options that select terminations, a
+/// Adds the argument that names the files of a script, and the option for rules. Also adds the options that select terminations, a
 /// time, a period or audible intervals.
 fn with_period<'a>(alloc: Global, command: Command<'a>) -> Result<Command<'a>, Error>
     ensures app { IfOk result (λ with. app_of with ≡ fold with_rule (app_of command.entry) (take 8 heard_options)) }
@@ -287,24 +293,47 @@ fn query_in(matches: &ArgMatches<'_>) -> Result<AskedQuery, &'static str>
     })
 }
 
-/// Returns the question that the options ask about a script, or the error message.
-fn request_in(matches: &ArgMatches<'_>) -> Result<HeardRequest, &'static str>
-    ensures request { IfOk result (λ request. request_in (rows_of (found_of matches.now)) ≡ Ok request) }
-    ensures refused { IfErr result (λ _. request_in (rows_of (found_of matches.now)) ≡ Err (ValueValidation ∷ [])) }
+/// Returns the files after the first one.
+pub(crate) fn later_in(alloc: Global, matches: &ArgMatches<'_>) -> Result<FilePaths, OptionFault>
+    ensures value { PathsAre (later_in (rows_of (found_of matches.now))) result }
 {
-    let query = query_in(matches)?;
-    let at = time_of("at", NO_TIME, matches)?;
-    let printing = printing_in(matches)?;
+    match matches.get_strs("file") {
+        Some(texts) => FilePaths::after_first(alloc, texts),
+        None => Ok(FilePaths::none(alloc)),
+    }
+}
+
+/// Returns the question that the options ask about a script.
+fn request_in(alloc: Global, matches: &ArgMatches<'_>) -> Result<HeardRequest, OptionFault>
+    ensures request { IfOk result (λ request. request_in (rows_of (found_of matches.now)) ≡ Ok request) }
+    ensures refused { IfErr result (λ fault. Refuses fault (request_in (rows_of (found_of matches.now)))) }
+{
+    let query = match query_in(matches) {
+        Ok(query) => query,
+        Err(message) => return Err(OptionFault::Invalid(message)),
+    };
+    let at = match time_of("at", NO_TIME, matches) {
+        Ok(at) => at,
+        Err(message) => return Err(OptionFault::Invalid(message)),
+    };
+    let printing = match printing_in(matches) {
+        Ok(printing) => printing,
+        Err(message) => return Err(OptionFault::Invalid(message)),
+    };
     let file = match file_of("file", matches) {
         Ok(file) => file,
-        Err(fault) => return Err(fault.script_message()),
+        Err(fault) => return Err(OptionFault::Invalid(fault.script_message())),
     };
-    Ok(HeardRequest {
-        file,
-        printing,
-        query,
-        at,
-    })
+    match later_in(alloc, matches) {
+        Ok(later) => Ok(HeardRequest {
+            file,
+            later,
+            printing,
+            query,
+            at,
+        }),
+        Err(fault) => Err(fault),
+    }
 }
 
 /// Returns whether a question asks about both a single time and a period.
@@ -326,13 +355,18 @@ fn heard_of(request: HeardRequest) -> Result<Invocation, &'static str>
     Ok(Invocation::Heard(request))
 }
 
-/// Returns the run for the question of who could hear whom, as the options ask it, or the error message.
-fn heard_in(matches: &ArgMatches<'_>) -> Result<Invocation, &'static str>
+/// Returns the run for the question of who could hear whom, as the options ask it.
+fn heard_in(alloc: Global, matches: &ArgMatches<'_>) -> Result<Invocation, OptionFault>
     ensures run { IfOk result (λ run. request_for heard_of (rows_of (found_of matches.now)) ≡ Ok run) }
-    ensures refused { IfErr result (λ _. request_for heard_of (rows_of (found_of matches.now)) ≡ Err (ValueValidation ∷ [])) }
+    ensures refused { IfErr result (λ fault. Refuses fault (request_for heard_of (rows_of (found_of matches.now)))) }
 {
-    let request = request_in(matches)?;
-    heard_of(request)
+    match request_in(alloc, matches) {
+        Ok(request) => match heard_of(request) {
+            Ok(run) => Ok(run),
+            Err(message) => Err(OptionFault::Invalid(message)),
+        },
+        Err(fault) => Err(fault),
+    }
 }
 
 /// Returns the number in a key, or `None` if the key isn't a termination's number.
@@ -366,13 +400,18 @@ fn audible_of(request: HeardRequest) -> Result<Invocation, &'static str>
     }))
 }
 
-/// Returns the run for the question of when a talker was audible, as the options ask it, or the error message.
-fn audible_in(matches: &ArgMatches<'_>) -> Result<Invocation, &'static str>
+/// Returns the run for the question of when a talker was audible, as the options ask it.
+fn audible_in(alloc: Global, matches: &ArgMatches<'_>) -> Result<Invocation, OptionFault>
     ensures run { IfOk result (λ run. request_for audible_of (rows_of (found_of matches.now)) ≡ Ok run) }
-    ensures refused { IfErr result (λ _. request_for audible_of (rows_of (found_of matches.now)) ≡ Err (ValueValidation ∷ [])) }
+    ensures refused { IfErr result (λ fault. Refuses fault (request_for audible_of (rows_of (found_of matches.now)))) }
 {
-    let request = request_in(matches)?;
-    audible_of(request)
+    match request_in(alloc, matches) {
+        Ok(request) => match audible_of(request) {
+            Ok(run) => Ok(run),
+            Err(message) => Err(OptionFault::Invalid(message)),
+        },
+        Err(fault) => Err(fault),
+    }
 }
 
 /// Returns whether an option is given that rules don't allow.
@@ -399,40 +438,48 @@ fn rules_of(matches: &ArgMatches<'_>) -> Result<Rules, RuleFault>
     }
 }
 
-/// Returns the run that checks a script against the rules on the command line, or the error message.
-fn watch_in(matches: &ArgMatches<'_>) -> Result<Invocation, &'static str>
+/// Returns the run that checks a script against the rules on the command line.
+fn watch_in(alloc: Global, matches: &ArgMatches<'_>) -> Result<Invocation, OptionFault>
     ensures run { IfOk result (λ run. watch_in (rows_of (found_of matches.now)) ≡ Ok run) }
-    ensures refused { IfErr result (λ _. watch_in (rows_of (found_of matches.now)) ≡ Err (ValueValidation ∷ [])) }
+    ensures refused { IfErr result (λ fault. Refuses fault (watch_in (rows_of (found_of matches.now)))) }
 {
     let rules = match rules_of(matches) {
         Ok(rules) => rules,
-        Err(fault) => return Err(fault.message()),
+        Err(fault) => return Err(OptionFault::Invalid(fault.message())),
     };
-    let printing = printing_in(matches)?;
+    let printing = match printing_in(matches) {
+        Ok(printing) => printing,
+        Err(message) => return Err(OptionFault::Invalid(message)),
+    };
     let file = match file_of("file", matches) {
         Ok(file) => file,
-        Err(fault) => return Err(fault.script_message()),
+        Err(fault) => return Err(OptionFault::Invalid(fault.script_message())),
+    };
+    let later = match later_in(alloc, matches) {
+        Ok(later) => later,
+        Err(fault) => return Err(fault),
     };
     if selects_part(matches) {
-        return Err(NO_PART);
+        return Err(OptionFault::Invalid(NO_PART));
     }
     Ok(Invocation::Watch(WatchRequest {
         file,
+        later,
         printing,
         rules,
     }))
 }
 
-/// Returns the run for the question or the rules on the command line, or the error message.
-pub(crate) fn script_in(matches: &ArgMatches<'_>) -> Result<Invocation, &'static str>
+/// Returns the run for the question or the rules on the command line.
+pub(crate) fn script_in(alloc: Global, matches: &ArgMatches<'_>) -> Result<Invocation, OptionFault>
     ensures run { IfOk result (λ run. script_in (rows_of (found_of matches.now)) ≡ Ok run) }
-    ensures refused { IfErr result (λ _. script_in (rows_of (found_of matches.now)) ≡ Err (ValueValidation ∷ [])) }
+    ensures refused { IfErr result (λ fault. Refuses fault (script_in (rows_of (found_of matches.now)))) }
 {
     if is_given("never", matches) {
-        watch_in(matches)
+        watch_in(alloc, matches)
     } else if is_set("audible", matches) {
-        audible_in(matches)
+        audible_in(alloc, matches)
     } else {
-        heard_in(matches)
+        heard_in(alloc, matches)
     }
 }

@@ -1,6 +1,7 @@
 use crate::audible_request::AudibleRequest;
 use crate::draws::Draws;
 use crate::file_path::FilePath;
+use crate::file_paths::FilePaths;
 use crate::heard_request::HeardRequest;
 use crate::service::Service;
 use crate::watch_request::WatchRequest;
@@ -24,8 +25,9 @@ pub enum Invocation {
     Heard(HeardRequest),
     /// Report when a talker was audible while a script ran.
     Audible(AudibleRequest),
-    /// Report whether the seals in a file, or in the input, are valid.
-    Verify(Option<FilePath>),
+    /// Report whether the seals in a file, or in the input, are valid. The second field has the files that follow the
+    /// file, oldest first.
+    Verify(Option<FilePath>, FilePaths),
     /// Copy the input to the output, and add seals.
     Seal,
     /// Report whether a script breaks a rule about who must not be heard.

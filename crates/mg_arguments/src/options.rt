@@ -1,4 +1,4 @@
-ghost use Rattle.std.specs.Prelude.{◌≡◌, ◌∷◌, [], Err, IfErr, IfOk, Ok, codes, fold, if◌then◌else◌, map, option_and_then, unwrap_or};
+ghost use Rattle.std.specs.Prelude.{◌≡◌, ◌∷◌, [], Err, IfErr, IfOk, IsErr, Ok, codes, fold, if◌then◌else◌, map, option_and_then, unwrap_or};
 ghost use Rattle.clap.specs.declared.error.kind.ErrorKind.TheVariants.{ValueValidation};
 ghost use Rattle.clap.specs.Walk.{all_of, first_of};
 ghost use Rattle.clap.specs.Words.{app_of, found_of, kind_of, rows_of, rule_of, with_rule};
@@ -8,6 +8,7 @@ ghost use Rattle.mg_options.specs.Line.{text_rule};
 ghost use Rattle.mg_options.specs.Numbers.{number_or};
 ghost use Rattle.mg_arguments.specs.Address.{bind_addresses_of};
 ghost use Rattle.mg_arguments.specs.FilePath.{file_path};
+ghost use Rattle.mg_arguments.specs.aids.Options.{IsInvalid, Refuses};
 ghost use Rattle.mg_arguments.specs.Options.{address_in, requested, command_line, config_at, controllers_in, repeated_rule};
 ghost use Rattle.mg_arguments.specs.Options.{check_in, check_line, draws_of, flag_rule, is_set, live_line, options, replay_line, run_of};
 ghost use Rattle.mg_arguments.specs.Options.{durability_in, fence_in, gateway_in, named_by, gateway_rule, given_in, is_given, run_in, service_in, sockets_line, subcommand_line};
@@ -23,6 +24,7 @@ use crate::file_path_fault::FilePathFault;
 use crate::given::Given;
 use crate::heard_options::{heard_command, script_in};
 use crate::invocation::Invocation;
+use crate::option_fault::OptionFault;
 use crate::sealing_options::{seal_command, verify_command, verify_in};
 use crate::service::Service;
 use clap::error::ErrorKind;
@@ -30,7 +32,7 @@ use clap::{Arg, ArgAction, ArgMatches, Command, Error};
 use mg_core::{Config, Peer, Shown, peer_of};
 use mg_journal::Durability;
 use mg_options::{long_number, long_value, program_command, short_number, short_value};
-use std::alloc::Global;
+use std::alloc::{AllocError, Global};
 use std::convert::AsStr;
 
 /// The error message if the gateway to check isn't named by its address and port.
@@ -141,6 +143,9 @@ fn on_sockets<'a>(alloc: Global, name: &'a str, about: &'a str) -> Result<Comman
             "File for a journal of messages and ticks, from which a restarted gateway continues",
         ))?
         .arg(flag(alloc, "sync").help("Sync each message to disk before answering it"))?
+        .arg(long_number(alloc, "checkpoint-every").help(
+            "Messages between checkpoints of the journal, 0–4294967295, 0 = only every 3 MB [default: 0]",
+        ))?
         .arg(flag(alloc, "fence").help(
             "Drop messages whose sender's number, as in <17.lobby.example>, is below the highest one",
         ))?
@@ -288,6 +293,13 @@ fn report_of(matches: &ArgMatches<'_>) -> u16
     ensures value { result ≡ number_or 65536 (codes "report") 0 (rows_of (found_of matches.now)) }
 {
     short_value(matches, "report").unwrap_or(0)
+}
+
+/// Returns the number of messages after which the journal is renewed, or 0 if their number doesn't matter.
+fn checkpoint_every_of(matches: &ArgMatches<'_>) -> u32
+    ensures value { result ≡ number_or 4294967296 (codes "checkpoint-every") 0 (rows_of (found_of matches.now)) }
+{
+    long_value(matches, "checkpoint-every").unwrap_or(0)
 }
 
 /// Returns whether a flag is set.
@@ -447,6 +459,7 @@ fn service_of(matches: &ArgMatches<'_>) -> Result<Service, &'static str>
         metrics,
         journal,
         durability,
+        checkpoint_every: checkpoint_every_of(matches),
         fence,
         fence_from: long_value(matches, "fence-from"),
         given: given_of(matches),
@@ -510,22 +523,32 @@ fn gateway_in(name: &str, matches: &ArgMatches<'_>) -> Result<Invocation, &'stat
     Ok(run_of(name, config, service, matches))
 }
 
-/// Returns the run that a subcommand requests with these options and arguments, or the error message.
-fn run_in(name: &str, matches: &ArgMatches<'_>) -> Result<Invocation, &'static str>
+/// Returns a run, or the fault with an error message.
+fn run_or_fault(run: Result<Invocation, &'static str>) -> Result<Invocation, OptionFault>
+    ensures run { IfOk result (λ found. run.entry ≡ Ok found) }
+    ensures refused { IfErr result (λ fault. IsErr run.entry × IsInvalid fault) }
+{
+    match run {
+        Ok(run) => Ok(run),
+        Err(message) => Err(OptionFault::Invalid(message)),
+    }
+}
+
+/// Returns the run that a subcommand requests with these options and arguments.
+fn run_in(alloc: Global, name: &str, matches: &ArgMatches<'_>) -> Result<Invocation, OptionFault>
     ensures run { IfOk result (λ run. run_in name.now (rows_of (found_of matches.now)) ≡ Ok run) }
-    ensures refused { IfErr result (λ _. run_in name.now (rows_of (found_of matches.now)) ≡
-        Err (ValueValidation ∷ [])) }
+    ensures refused { IfErr result (λ fault. Refuses fault (run_in name.now (rows_of (found_of matches.now)))) }
 {
     if name == "check" {
-        check_in(matches)
+        run_or_fault(check_in(matches))
     } else if name == "heard" {
-        script_in(matches)
+        script_in(alloc, matches)
     } else if name == "verify" {
-        verify_in(matches)
+        verify_in(alloc, matches)
     } else if name == "seal" {
         Ok(Invocation::Seal)
     } else {
-        gateway_in(name, matches)
+        run_or_fault(gateway_in(name, matches))
     }
 }
 
@@ -542,8 +565,11 @@ pub fn requested_run<'a, S: AsStr>(alloc: Global, words: &'a [S]) -> Result<Invo
     let Some((name, options)) = matches.subcommand() else {
         unreachable!();
     };
-    match run_in(name, options) {
+    match run_in(alloc, name, options) {
         Ok(run) => Ok(run),
-        Err(fault) => Err(command.error(ErrorKind::ValueValidation, fault)?),
+        Err(OptionFault::Invalid(message)) => {
+            Err(command.error(ErrorKind::ValueValidation, message)?)
+        }
+        Err(OptionFault::NoMemory) => Err(Error::from(AllocError)),
     }
 }

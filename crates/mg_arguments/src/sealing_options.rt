@@ -3,10 +3,12 @@
 ghost use Rattle.std.specs.Prelude.{◌≡◌, ◌∷◌, [], Err, IfErr, IfOk, Ok};
 ghost use Rattle.clap.specs.declared.error.kind.ErrorKind.TheVariants.{ValueValidation};
 ghost use Rattle.clap.specs.Words.{app_of, found_of, kind_of, rows_of};
+ghost use Rattle.mg_arguments.specs.aids.Options.{Refuses};
 ghost use Rattle.mg_arguments.specs.Options.{seal_line, verify_in, verify_line};
 
-use crate::heard_options::script_argument;
+use crate::heard_options::{files_argument, later_in};
 use crate::invocation::Invocation;
+use crate::option_fault::OptionFault;
 use crate::options::file_of;
 use clap::error::ErrorKind;
 use clap::{ArgMatches, Command, Error};
@@ -19,7 +21,7 @@ pub(crate) fn verify_command<'a>(alloc: Global) -> Result<Command<'a>, Error>
 {
     let command = Command::new(alloc, "verify")
         .about("Check the seals of a journal or a recording")
-        .arg(script_argument(alloc))?;
+        .arg(files_argument(alloc))?;
     Ok(command)
 }
 
@@ -32,14 +34,18 @@ pub(crate) fn seal_command<'a>(alloc: Global) -> Command<'a>
     )
 }
 
-/// Returns the check of seals that the options request, or the error message.
-#[tactic(auto, using(crate::proofs::SealingOptionLemmas::refuses_verify, crate::proofs::SealingOptionLemmas::verify_is))]
-pub(crate) fn verify_in(matches: &ArgMatches<'_>) -> Result<Invocation, &'static str>
+/// Returns the check of seals that the options request.
+#[tactic(auto, using(crate::proofs::SealingOptionLemmas::refuses_file, crate::proofs::SealingOptionLemmas::refuses_later, crate::proofs::SealingOptionLemmas::verify_is))]
+pub(crate) fn verify_in(alloc: Global, matches: &ArgMatches<'_>) -> Result<Invocation, OptionFault>
     ensures run { IfOk result (λ run. verify_in (rows_of (found_of matches.now)) ≡ Ok run) }
-    ensures refused { IfErr result (λ _. verify_in (rows_of (found_of matches.now)) ≡ Err (ValueValidation ∷ [])) }
+    ensures refused { IfErr result (λ fault. Refuses fault (verify_in (rows_of (found_of matches.now)))) }
 {
-    match file_of("file", matches) {
-        Ok(file) => Ok(Invocation::Verify(file)),
-        Err(fault) => Err(fault.script_message()),
+    let file = match file_of("file", matches) {
+        Ok(file) => file,
+        Err(fault) => return Err(OptionFault::Invalid(fault.script_message())),
+    };
+    match later_in(alloc, matches) {
+        Ok(later) => Ok(Invocation::Verify(file, later)),
+        Err(fault) => Err(fault),
     }
 }

@@ -1,6 +1,7 @@
 ghost use Rattle.std.specs.Prelude.{◌≡◌, Some, None, if◌then◌else◌};
 ghost use Rattle.std.specs.Option.{option_map};
 ghost use Rattle.mg_arguments.specs.Setup.{setup_of};
+ghost use Rattle.mg_arguments.specs.Title.{title_line};
 
 use crate::bind_addresses::BindAddresses;
 use crate::controllers::Controllers;
@@ -30,6 +31,9 @@ pub struct Service {
     pub journal: Option<FilePath>,
     /// How durably messages are appended to the journal.
     pub durability: Durability,
+    /// The number of messages after which the journal is renewed with a checkpoint; 0 means that their number doesn't
+    /// matter.
+    pub checkpoint_every: u32,
     /// Whether the fence is strict, or `None` if there is no fence.
     pub fence: Option<bool>,
     /// The number at which the fence begins, or `None` to begin at the number that the journal has reached.
@@ -40,16 +44,16 @@ pub struct Service {
 }
 
 impl Service {
-    /// Returns the setup of a session with this configuration. `reached` is the number that the journal has reached.
-    pub fn setup(&self, config: Config, reached: u32) -> Setup<'_>
+    /// Returns the setup of a session with this configuration. `reached` is the number that the journal has reached, and
+    /// `title` is the line of the title (see [`title_line_of`](crate::title_line_of)).
+    pub fn setup<'s>(&'s self, config: Config, reached: u32, title: &'s [u8]) -> Setup<'s>
+        requires title { title.now ≡ title_line config }
         ensures value { result ≡ setup_of config reached self.now }
     {
         let journal = self.journal.as_ref().map(|_| self.durability);
+        let reached = self.fence_from.unwrap_or(reached);
         let fence = match self.fence {
-            Some(strict) => Some(Fence {
-                reached: self.fence_from.unwrap_or(reached),
-                strict,
-            }),
+            Some(strict) => Some(Fence { reached, strict }),
             None => None,
         };
         Setup::new(
@@ -59,6 +63,7 @@ impl Service {
             journal,
             fence,
         )
+        .renewing(title, reached)
     }
 
     /// Returns the title of the output if it is a recording, and `None` otherwise.

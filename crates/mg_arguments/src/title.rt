@@ -1,6 +1,6 @@
 ghost use Rattle.std.specs.Prelude.{◌≡◌, ◌+◌, ◌≤◌, ◌++◌, length, decimal};
 ghost use Rattle.mg_words.specs.Address.{address_text};
-ghost use Rattle.mg_arguments.specs.Title.{title_text};
+ghost use Rattle.mg_arguments.specs.Title.{title_line, title_text};
 
 use arrayvec::ArrayVec;
 use itoa::Buffer;
@@ -10,8 +10,14 @@ use mg_words::{ADDRESS_LIMIT, address_text};
 /// The capacity of a title, in bytes: the longest title and a margin.
 pub const TITLE_LIMIT: usize = 512;
 
+/// The capacity of a title's line, in bytes.
+const LINE_LIMIT: usize = TITLE_LIMIT + 3;
+
 /// The first line of a recording, without the leading `# ` and the line feed.
 pub type Title = ArrayVec<u8, TITLE_LIMIT>;
+
+/// The line of a title, as a comment with its line feed.
+pub type TitleLine = ArrayVec<u8, LINE_LIMIT>;
 
 /// Appends a string.
 fn push_text(title: &mut Title, text: &[u8])
@@ -67,4 +73,24 @@ pub fn title_of(config: &Config) -> Title
     push_number(&mut title, " --sequence=", u32::from(config.sequence));
     push_number(&mut title, " --timestamp=", config.timestamp);
     title
+}
+
+/// Appends bytes to a title's line.
+fn push_bytes(line: &mut TitleLine, text: &[u8])
+    requires room { length line.old.items + length text.now ≤ LINE_LIMIT }
+    ensures value { line.new.items ≡ line.old.items ++ text.now }
+{
+    let _ = line.try_extend_from_slice(text);
+}
+
+/// Returns the first line of a recording or a journal.
+pub fn title_line_of(config: &Config) -> TitleLine
+    ensures value { result.items ≡ title_line config.now }
+{
+    let title = title_of(config);
+    let mut line = TitleLine::new();
+    push_bytes(&mut line, b"# ");
+    push_bytes(&mut line, title.as_slice());
+    push_bytes(&mut line, b"\n");
+    line
 }

@@ -1,4 +1,5 @@
 use crate::file_path::FilePath;
+use crate::file_paths::FilePaths;
 use crate::printing::Printing;
 use crate::rules::Rules;
 
@@ -7,6 +8,8 @@ use crate::rules::Rules;
 pub struct WatchRequest {
     /// The script's file, or `None` for standard input.
     pub file: Option<FilePath>,
+    /// The files that follow the script's file, oldest first.
+    pub later: FilePaths,
     pub printing: Printing,
     pub rules: Rules,
 }

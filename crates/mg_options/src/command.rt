@@ -8,7 +8,8 @@ use std::alloc::Global;
 /// The version of the programs.
 pub const VERSION: &str = "0.5.0";
 
-/// The toolchain that proves and builds the programs, as `rt version` prints it. `.ci/dist` checks that the two agree.
+/// The toolchain that proves and builds the programs, as `rt version` prints it. `.ci/dist` checks that this
+/// text is what `rt version` prints.
 pub const TOOLCHAIN: &str = "rattle-kit-13f logic dac8208d650f15bf";
 
 /// Creates the command line of a program, to which options and subcommands are added.

@@ -2,3 +2,4 @@ pub mod EndLemmas
 pub mod PortLemmas
 pub mod FailLemmas
 pub mod DecisionLemmas
+pub mod RenewLemmas

@@ -75,21 +75,21 @@ pub no_session_then : (a b c : Option (List HostCall)) (p : List HostCall) → G
 no_session_then a b c p grows quiet rest = quiet_then a b c (p, grows, quiet) rest
 
 -- The calls before a gateway starts run no session.
-begun_quiet : (journal text : Option (List ℕ)) (config : Config) (missed : ℕ) (fence : Option ℕ)
-    (a b : Option (List HostCall)) → Begins journal text config missed fence a b → RunsNoSession a b
-begun_quiet None text config missed fence a b (same, none) =
+begun_quiet : (journal text script : Option (List ℕ)) (config : Config) (missed : ℕ) (fence : Option ℕ)
+    (a b : Option (List HostCall)) → Begins journal text script config missed fence a b → RunsNoSession a b
+begun_quiet None text script config missed fence a b (same, none) =
     ([], subst (λ (x : Option (List HostCall)). Grows a x []) (sym same) (grows_none a), tt)
-begun_quiet (Some path) text config missed fence a b (millis, calls, lines, grows, writes, is) =
+begun_quiet (Some path) text script config missed fence a b (millis, calls, lines, grows, writes, is, begun) =
     (ReadDate millis ∷ calls, grows, writes_quiet calls lines writes)
 
 -- If a gateway binds its sockets and begins its journal but doesn't start, it runs no session.
-pub not_started : (journal text : Option (List ℕ)) (addresses : List (List ℕ)) (config : Config) (missed : ℕ)
+pub not_started : (journal text script : Option (List ℕ)) (addresses : List (List ℕ)) (config : Config) (missed : ℕ)
     (fence : Option ℕ) (a b c d : Option (List HostCall)) → Grows a b (binds_of config addresses)
-    → Begins journal text config missed fence b c → d ≡ c → RunsNoSession a d
-not_started journal text addresses config missed fence a b c d bound begins same =
+    → Begins journal text script config missed fence b c → d ≡ c → RunsNoSession a d
+not_started journal text script addresses config missed fence a b c d bound begins same =
     subst (λ (x : Option (List HostCall)). RunsNoSession a x) (sym same)
     (quiet_then a b c (binds_of config addresses, bound, binds_quiet config addresses)
-    (begun_quiet journal text config missed fence b c begins))
+    (begun_quiet journal text script config missed fence b c begins))
 
 -- If the next media socket is bound, `first_binds` holds with one more socket.
 pub binds_more : (config : Config) (address : Option (List ℕ)) (count port : ℕ) (a b c : Option (List HostCall))

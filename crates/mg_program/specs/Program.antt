@@ -54,9 +54,9 @@ Runs remaining contents silent Says before after clock input rest old new (Audib
     (IsSome request.heard.file → rest ≡ input)
     × UnlessFault ((status ≡ Done) × IsAudibleFrom request before after (remaining input)
     (contents old) (contents new) silent) status
-Runs remaining contents silent Says before after clock input rest old new (Verify file) status =
+Runs remaining contents silent Says before after clock input rest old new (Verify file later) status =
     (IsSome file → rest ≡ input)
-    × UnlessFault (IsVerifiedFrom file before after (remaining input) (contents old) (contents new)
+    × UnlessFault (IsVerifiedFrom file later before after (remaining input) (contents old) (contents new)
     status × silent) status
 Runs remaining contents silent Says before after clock input rest old new Seal status =
     SealsInput (remaining input) (contents old) (contents new) silent status × (after ≡ before)

@@ -102,8 +102,8 @@ fn run<E: Environment>(
             );
             Ended { outside, status }
         }
-        Invocation::Verify(file) => {
-            let status = verify(system.alloc, &mut outside, file);
+        Invocation::Verify(file, later) => {
+            let status = verify(system.alloc, &mut outside, file, later.as_slice());
             Ended { outside, status }
         }
         Invocation::Seal => {
@@ -124,8 +124,8 @@ fn run<E: Environment>(
 /// The status is 0 on success, 1 for a bad script line, and 2 for invalid arguments, an invalid configuration or a
 /// gateway that doesn't answer. It is 3 for faults of the system that have no status of their own: for example, a read
 /// or a write failed, the clock can't be read, or there are no random numbers. It is 4 if memory ran out, 5 for a port
-/// that can't be bound, and 6 for a journal or another file that can't be used. Each of these faults, and a
-/// gateway that doesn't answer, is reported on `errors`. A gateway's periodic reports go to `reports`.
+/// that can't be bound, and 6 for a journal or another file that can't be used. These faults are reported to `errors`,
+/// and so is a gateway that doesn't answer. A gateway's periodic reports go to `reports`.
 ///
 /// Some statuses are answers. For a question about a given time, 1 means that the talker could not be heard, and 2 that
 /// the script doesn't say. For any question about who could be heard, 2 also means that the gateway never had the

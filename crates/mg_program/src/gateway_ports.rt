@@ -3,12 +3,14 @@ ghost use Rattle.std.specs.Option.{option_map_or};
 ghost use Rattle.mg_journal.specs.Journal.{no_journal};
 ghost use Rattle.mg_journal.specs.Text.{EndsInLineFeed};
 ghost use Rattle.mg_ports.specs.Calls.{IsCounted};
-ghost use Rattle.mg_ports.specs.Journaled.{AppendsDated};
+ghost use Rattle.mg_dates.specs.aids.Texts.{Extends};
+ghost use Rattle.mg_ports.specs.Journaled.{AppendsDated, RenewsDated};
 ghost use Rattle.mg_host.specs.HostCalls.{port_calls};
 ghost use Rattle.mg_program.specs.Decisions.{HasDecided, knows};
 
 use crate::log_key::LogKey;
 use crate::receiving::{ALL_READY, SOCKETS, receive_reported};
+use crate::renewals::Renewals;
 use crate::sending::{count_cause, send_in_time};
 use mg_core::Peer;
 use mg_dates::DatedJournal;
@@ -27,6 +29,7 @@ pub(crate) struct GatewayPorts<'a, H: Sockets, J: Journal, C: Clock, K: LogKey> 
     timing: Timing,
     /// The sockets at which a datagram may be waiting.
     ready: [bool; SOCKETS],
+    renewals: Renewals,
     failures: u64,
     causes: FailureCauses,
     of: PhantomData<K>,
@@ -58,6 +61,23 @@ fn append<J: Journal, C: Clock>(
     }
 }
 
+/// Replaces the journal, or fails if there is no journal.
+fn renew<J: Journal, C: Clock>(
+    journal: &mut Option<DatedJournal<'_, J, C>>,
+    text: &mut Vec<u8>,
+    durability: Durability,
+) -> Result<(), AppendFault>
+    requires line_feed { EndsInLineFeed text.old.items }
+    ensures value { RenewsDated text.old.items durability (option_map_or (λ d. d) journal.old no_journal)
+        (option_map_or (λ d. d) journal.new no_journal) result }
+    ensures front { Extends text.old.items text.new.items }
+{
+    match journal {
+        Some(journal) => journal.renew(text, durability),
+        None => Err(AppendFault::Broken),
+    }
+}
+
 /// If `answer` is an error, counts it as a failure.
 fn count<T, F>(answer: &Result<T, F>, failures: &mut u64)
     ensures fault { OnErr answer.now (IsCounted failures.old failures.new) }
@@ -68,8 +88,9 @@ fn count<T, F>(answer: &Result<T, F>, failures: &mut u64)
 }
 
 impl<'a, H: Sockets, J: Journal, C: Clock, K: LogKey> GatewayPorts<'a, H, J, C, K> {
-    /// Creates ports on the sockets of this host, which must be bound.
-    pub(crate) fn new(host: H, journal: Option<DatedJournal<'a, J, C>>) -> Self
+    /// Creates ports on the sockets of this host, which must be bound. The journal is renewed after this many messages;
+    /// 0 means that their number doesn't matter.
+    pub(crate) fn new(host: H, journal: Option<DatedJournal<'a, J, C>>, every: u32) -> Self
         requires begins { H.calls host ≡ K.calls }
         ensures host { result.host ≡ host }
         ensures journal { result.journal ≡ journal.entry }
@@ -79,6 +100,7 @@ impl<'a, H: Sockets, J: Journal, C: Clock, K: LogKey> GatewayPorts<'a, H, J, C, 
             journal,
             timing: Timing::OnTime,
             ready: ALL_READY,
+            renewals: Renewals::new(every),
             failures: 0,
             causes: FailureCauses::default(),
             of: PhantomData,
@@ -124,6 +146,23 @@ impl<'a, H: Sockets, J: Journal, C: Clock, K: LogKey> Ports for GatewayPorts<'a,
     fn append(&mut self, lines: &[u8], durability: Durability) -> Result<(), AppendFault> {
         let outcome = append(&mut self.journal, lines, durability);
         self.host.log_append(lines, durability, outcome);
+        self.renewals.count(lines, outcome.is_ok());
+        outcome
+    }
+
+    fn is_renewal_due(&mut self) -> bool {
+        match &mut self.journal {
+            Some(journal) => self.renewals.tick(journal),
+            None => false,
+        }
+    }
+
+    fn renew(&mut self, text: &mut Vec<u8>, durability: Durability) -> Result<(), AppendFault> {
+        let len = text.as_slice().len();
+        let outcome = renew(&mut self.journal, text, durability);
+        self.host
+            .log_renewal(&text.as_slice()[..len], durability, outcome);
+        self.renewals.end(outcome.is_ok());
         outcome
     }
 

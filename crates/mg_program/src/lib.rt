@@ -30,6 +30,7 @@ mod log_key;
 mod metrics_file;
 mod ready;
 mod receiving;
+mod renewals;
 mod replay;
 mod send_fault;
 mod sending;

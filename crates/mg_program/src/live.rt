@@ -1,16 +1,16 @@
-ghost use Rattle.std.specs.Prelude.{◌≡◌, ◌≢◌, ◌⊎◌, ℕ, [], List, Option, Some, Err, IfSome, IsSome};
+ghost use Rattle.std.specs.Prelude.{◌≡◌, ◌≢◌, ◌⊎◌, ℕ, [], List, Option, None, Some, Err, IsSome};
 ghost use Rattle.std.specs.Option.{option_map_or};
 ghost use Rattle.mg_clock.specs.Ticks.{clock_seen};
 ghost use Rattle.mg_engine.specs.Config.{IsValidConfig};
 ghost use Rattle.mg_journal.specs.Journal.{no_journal};
 ghost use Rattle.mg_journal.specs.aids.Opened.{text_in};
-ghost use Rattle.mg_start.specs.aids.Starting.{KeepsTimes, CanResume, CanStart};
+ghost use Rattle.mg_start.specs.aids.Starting.{CanResume, CanStart};
 ghost use Rattle.mg_core.specs.World.{World};
 ghost use Rattle.mg_core.specs.aids.Stands.{StandsFor};
 ghost use Rattle.mg_ports.specs.Journaled.{ports_seen};
 ghost use Rattle.mg_serve.specs.Serve.{ClockCommands, Served, form_of};
 ghost use Rattle.mg_arguments.specs.Setup.{setup_of};
-ghost use Rattle.mg_arguments.specs.Title.{title_if};
+ghost use Rattle.mg_arguments.specs.Title.{title_if, title_line};
 ghost use Rattle.mg_host.specs.declared.host_call.HostCall.{HostCall};
 ghost use Rattle.mg_host.specs.HostCalls.{Grows, IsLogged, port_calls};
 ghost use Rattle.mg_program.specs.Serve.{ByClock, Serves, ServesChosen, ServesOnPorts, binds_of};
@@ -22,7 +22,7 @@ use crate::log_key::LogKey;
 use crate::metrics_file::MetricsFile;
 use crate::ready::{Ready, make_ready};
 use crate::status::status_after;
-use mg_arguments::{Service, title_of};
+use mg_arguments::{Service, TitleLine, title_line_of, title_of};
 use mg_core::RunFault;
 use mg_host::{Clocks, Environment, Journals, Outside, System};
 use mg_monitor::{Both, Metrics, Reports};
@@ -43,15 +43,17 @@ type LiveMonitor<'a, E> = Both<
     >,
 >;
 
-/// Runs a gateway on these ports, driven by a clock.
-fn live_on<L: LogKey, E: Environment>(
-    gateway: Gateway<'_>,
+/// Runs a gateway on these ports, driven by a clock. `line` is the line of its title.
+fn live_on<'t, 's: 't, L: LogKey, E: Environment>(
+    gateway: Gateway<'s>,
+    line: &'t TitleLine,
     ports: &mut PortsOf<'_, E, L>,
     timer: &mut Timer<<E::Host as Clocks>::Watch>,
     output: &mut E::Output,
     monitor: &mut LiveMonitor<'_, E>,
 ) -> RunFault
     requires sound { IsValidConfig gateway.config }
+    requires line { line.now.items ≡ title_line gateway.config }
     ensures session { (w : World) → StandsFor gateway.entry.core.state w →
         Served (setup_of gateway.entry.config gateway.entry.reached gateway.entry.service.now) w
         (title_if gateway.entry.service.now.records gateway.entry.config)
@@ -67,7 +69,7 @@ fn live_on<L: LogKey, E: Environment>(
     let config = gateway.config;
     let service = gateway.service;
     let title = title_of(&config);
-    let setup = service.setup(config, gateway.reached);
+    let setup = service.setup(config, gateway.reached, line.as_slice());
     let start = Start {
         alloc: gateway.alloc,
         setup: &setup,
@@ -97,8 +99,17 @@ fn live_on_sockets<L: LogKey, E: Environment>(
         (E.Output.contents output.new) text bound (E.Host.calls result.0) (Err result.1) }
 {
     let mut timer = timer;
-    let mut ports = GatewayPorts::<_, _, _, L>::new(host, ready.journal);
-    let fault = live_on::<L, E>(ready.gateway, &mut ports, &mut timer, output, monitor);
+    let every = ready.gateway.service.checkpoint_every;
+    let mut ports = GatewayPorts::<_, _, _, L>::new(host, ready.journal, every);
+    let line = title_line_of(&ready.gateway.config);
+    let fault = live_on::<L, E>(
+        ready.gateway,
+        &line,
+        &mut ports,
+        &mut timer,
+        output,
+        monitor,
+    );
     let mut host = ports.host;
     let Timer { watch, .. } = timer;
     host.stop(watch);
@@ -141,9 +152,8 @@ fn live_prepared<E: Environment>(
     late: u16,
 ) -> Ended<E>
     requires resumed { CanResume (option_map_or (λ j. text_in j.opening.file) prepared.journal (Some []))
-        prepared.config prepared.core.state prepared.reached }
+        (option_map_or (λ j. j.timeline) prepared.journal None) prepared.config prepared.core.state prepared.reached }
     requires found { IsSome service.now.journal → IsSome prepared.journal }
-    requires times { IfSome prepared.journal (λ j. KeepsTimes j.timeline (text_in j.opening.file)) }
     ensures value { ServesChosen (ByClock late (E.Host.stopped result.outside.host))
         (result.outside.output ≡ outside.output) prepared.config
         service.now (E.Output.contents outside.output) (E.Output.contents result.outside.output)

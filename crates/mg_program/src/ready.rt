@@ -1,10 +1,10 @@
-ghost use Rattle.std.specs.Prelude.{◌≡◌, [], List, Option, Some, IfErr, IfOk, IfSome, IsSome, OnErr, OnOk};
+ghost use Rattle.std.specs.Prelude.{◌≡◌, [], List, Option, None, Some, IfErr, IfOk, IsSome, OnErr, OnOk};
 ghost use Rattle.std.specs.Option.{option_map_or};
 ghost use Rattle.mg_engine.specs.Config.{IsValidConfig};
 ghost use Rattle.mg_journal.specs.Journal.{no_journal};
 ghost use Rattle.mg_journal.specs.aids.Opened.{text_in};
 ghost use Rattle.mg_start.specs.Journal.{RunsNoSession};
-ghost use Rattle.mg_start.specs.aids.Starting.{KeepsTimes, CanResume, CanStart};
+ghost use Rattle.mg_start.specs.aids.Starting.{CanResume, CanStart};
 ghost use Rattle.mg_host.specs.declared.host_call.HostCall.{HostCall};
 ghost use Rattle.mg_host.specs.HostCalls.{Grows};
 ghost use Rattle.mg_start.specs.Start.{FailsToStart};
@@ -67,9 +67,8 @@ pub fn make_ready<'a, E: Environment>(
     errors: &mut E::Errors,
 ) -> Result<Ready<'a, E>, Status>
     requires resumed { CanResume (option_map_or (λ j. text_in j.opening.file) prepared.journal (Some []))
-        prepared.config prepared.core.state prepared.reached }
+        (option_map_or (λ j. j.timeline) prepared.journal None) prepared.config prepared.core.state prepared.reached }
     requires found { IsSome service.now.journal → IsSome prepared.journal }
-    requires times { IfSome prepared.journal (λ j. KeepsTimes j.timeline (text_in j.opening.file)) }
     ensures fails { OnErr result (RunsNoSession (E.Host.calls host.old) (E.Host.calls host.new)) }
     ensures config { IfOk result (λ r. r.gateway.config ≡ prepared.config) }
     ensures service { IfOk result (λ r. r.gateway.service.now ≡ service.now) }

@@ -1,15 +1,15 @@
-ghost use Rattle.std.specs.Prelude.{◌≡◌, ◌≢◌, ℕ, [], List, Option, Some, Err, IfSome, IsSome};
+ghost use Rattle.std.specs.Prelude.{◌≡◌, ◌≢◌, ℕ, [], List, Option, None, Some, Err, IsSome};
 ghost use Rattle.std.specs.Option.{option_map_or};
 ghost use Rattle.mg_engine.specs.Config.{IsValidConfig};
 ghost use Rattle.mg_journal.specs.Journal.{no_journal};
 ghost use Rattle.mg_journal.specs.aids.Opened.{text_in};
-ghost use Rattle.mg_start.specs.aids.Starting.{KeepsTimes, CanResume, CanStart};
+ghost use Rattle.mg_start.specs.aids.Starting.{CanResume, CanStart};
 ghost use Rattle.mg_core.specs.World.{World};
 ghost use Rattle.mg_core.specs.aids.Stands.{StandsFor};
 ghost use Rattle.mg_ports.specs.Journaled.{ports_seen};
 ghost use Rattle.mg_serve.specs.Serve.{ReadCommands, Served, form_of};
 ghost use Rattle.mg_arguments.specs.Setup.{setup_of};
-ghost use Rattle.mg_arguments.specs.Title.{title_if};
+ghost use Rattle.mg_arguments.specs.Title.{title_if, title_line};
 ghost use Rattle.mg_host.specs.declared.host_call.HostCall.{HostCall};
 ghost use Rattle.mg_host.specs.HostCalls.{Grows, port_calls};
 ghost use Rattle.mg_program.specs.Serve.{ByLines, Serves, ServesChosen, ServesOnPorts, binds_of};
@@ -19,7 +19,7 @@ use crate::gateway_ports::{GatewayPorts, PortsOf};
 use crate::log_key::LogKey;
 use crate::ready::{Ready, make_ready};
 use crate::status::status_after;
-use mg_arguments::{Service, title_of};
+use mg_arguments::{Service, TitleLine, title_line_of, title_of};
 use mg_core::{Counts, RunFault};
 use mg_host::{Environment, Journals, Outside, System};
 use mg_monitor::Reports;
@@ -30,15 +30,17 @@ use std::alloc::AllocError;
 use std::io::Write;
 use std::marker::Brand;
 
-/// Runs a gateway on these ports, driven by input lines.
-fn serve_on<L: LogKey, E: Environment>(
-    gateway: Gateway<'_>,
+/// Runs a gateway on these ports, driven by input lines. `line` is the line of its title.
+fn serve_on<'t, 's: 't, L: LogKey, E: Environment>(
+    gateway: Gateway<'s>,
+    line: &'t TitleLine,
     ports: &mut PortsOf<'_, E, L>,
     input: &mut E::Input,
     output: &mut E::Output,
     monitor: &mut Reports<'_, E::Reports>,
 ) -> Result<Counts, RunFault>
     requires sound { IsValidConfig gateway.config }
+    requires line { line.now.items ≡ title_line gateway.config }
     ensures session { (w : World) → StandsFor gateway.entry.core.state w →
         Served (setup_of gateway.entry.config gateway.entry.reached gateway.entry.service.now) w
         (title_if gateway.entry.service.now.records gateway.entry.config)
@@ -52,7 +54,7 @@ fn serve_on<L: LogKey, E: Environment>(
     let config = gateway.config;
     let service = gateway.service;
     let title = title_of(&config);
-    let setup = service.setup(config, gateway.reached);
+    let setup = service.setup(config, gateway.reached, line.as_slice());
     let start = Start {
         alloc: gateway.alloc,
         setup: &setup,
@@ -80,8 +82,10 @@ fn serve_on_sockets<L: LogKey, E: Environment>(
         ready.entry.gateway.config ready.entry.gateway.service.now (E.Output.contents output.old)
         (E.Output.contents output.new) text bound (E.Host.calls result.0) result.1 }
 {
-    let mut ports = GatewayPorts::<_, _, _, L>::new(host, ready.journal);
-    let outcome = serve_on::<L, E>(ready.gateway, &mut ports, input, output, monitor);
+    let every = ready.gateway.service.checkpoint_every;
+    let mut ports = GatewayPorts::<_, _, _, L>::new(host, ready.journal, every);
+    let line = title_line_of(&ready.gateway.config);
+    let outcome = serve_on::<L, E>(ready.gateway, &line, &mut ports, input, output, monitor);
     (ports.host, outcome)
 }
 
@@ -118,9 +122,8 @@ fn serve_prepared<E: Environment>(
     service: &Service,
 ) -> Ended<E>
     requires resumed { CanResume (option_map_or (λ j. text_in j.opening.file) prepared.journal (Some []))
-        prepared.config prepared.core.state prepared.reached }
+        (option_map_or (λ j. j.timeline) prepared.journal None) prepared.config prepared.core.state prepared.reached }
     requires found { IsSome service.now.journal → IsSome prepared.journal }
-    requires times { IfSome prepared.journal (λ j. KeepsTimes j.timeline (text_in j.opening.file)) }
     ensures value { ServesChosen (ByLines (E.Input.remaining outside.input) (E.Input.remaining result.outside.input))
         ((result.outside.input ≡ outside.input) × (result.outside.output ≡ outside.output)) prepared.config service.now
         (E.Output.contents outside.output) (E.Output.contents result.outside.output)

@@ -1,17 +1,17 @@
-ghost use Rattle.std.specs.Prelude.{◌≡◌, IsSome};
+ghost use Rattle.std.specs.Prelude.{◌≡◌, [], IsSome, None, Some};
 ghost use Rattle.mg_options.specs.Status.{UnlessFault};
 ghost use Rattle.mg_program.specs.Verify.{IsVerifiedFrom};
 
 use mg_arguments::FilePath;
 use mg_host::{Environment, Outside, Texts};
 use mg_options::Status;
-use mg_sealing::{verify_input, verify_text};
+use mg_sealing::{Series, verify_input, verify_text};
 use std::alloc::Global;
 use std::io::Write;
 
 /// Prints whether the seals in a file are valid. Returns the exit status. A fault is reported to `errors`.
 fn verify_file<E: Environment>(alloc: Global, outside: &mut Outside<E>, path: &FilePath) -> Status
-    ensures value { UnlessFault (IsVerifiedFrom (Some path.now) (E.Host.calls outside.old.host)
+    ensures value { UnlessFault (IsVerifiedFrom (Some path.now) [] (E.Host.calls outside.old.host)
         (E.Host.calls outside.new.host) None (E.Output.contents outside.old.output)
         (E.Output.contents outside.new.output) result × (outside.new.errors ≡ outside.old.errors)) result }
     ensures unread { outside.new.input ≡ outside.old.input }
@@ -27,20 +27,70 @@ fn verify_file<E: Environment>(alloc: Global, outside: &mut Outside<E>, path: &F
     }
 }
 
-/// Prints whether the seals in a file are valid, or the seals in the input if `file` is `None`. Returns the exit
+/// Prints whether the seals in the next of several files are valid, and whether it follows the file before it. Returns
+/// the exit status for this file. A fault is reported to `errors`.
+fn verify_next<E: Environment>(
+    series: &mut Series,
+    outside: &mut Outside<E>,
+    path: &FilePath,
+) -> Status
+    ensures silent { UnlessFault (outside.new.errors ≡ outside.old.errors) result }
+    ensures unread { outside.new.input ≡ outside.old.input }
+{
+    let name = path.as_str();
+    let (output, errors) = (&mut outside.output, &mut outside.errors);
+    match outside.host.open_text(name) {
+        Ok(mut file) => series.verify(name, &mut file, output, errors),
+        Err(error) => {
+            let _ = writeln!(errors, "{name}: cannot be opened: {error}");
+            Status::BadJournal
+        }
+    }
+}
+
+/// Prints whether the seals in files are valid, and whether each later file follows the one before it. Returns the exit
 /// status. A fault is reported to `errors`.
+fn verify_files<E: Environment>(
+    alloc: Global,
+    outside: &mut Outside<E>,
+    path: &FilePath,
+    later: &[FilePath],
+) -> Status
+    ensures silent { UnlessFault (outside.new.errors ≡ outside.old.errors) result }
+    ensures unread { outside.new.input ≡ outside.old.input }
+{
+    let mut series = Series::new(alloc);
+    let mut status = verify_next(&mut series, outside, path);
+    for next in later {
+        match status {
+            Status::Done => status = verify_next(&mut series, outside, next),
+            Status::BadLine => match verify_next(&mut series, outside, next) {
+                Status::Done => {}
+                other => status = other,
+            },
+            fault => return fault,
+        }
+    }
+    status
+}
+
+/// Prints whether the seals in a file are valid, or the seals in the input if `file` is `None`. If there are later
+/// files, also prints whether each of them follows the one before it. Returns the exit status. A fault is reported to
+/// `errors`.
 pub fn verify<E: Environment>(
     alloc: Global,
     outside: &mut Outside<E>,
     file: &Option<FilePath>,
+    later: &[FilePath],
 ) -> Status
-    ensures value { UnlessFault (IsVerifiedFrom file.now (E.Host.calls outside.old.host) (E.Host.calls outside.new.host)
-        (E.Input.remaining outside.old.input) (E.Output.contents outside.old.output)
+    ensures value { UnlessFault (IsVerifiedFrom file.now later.now (E.Host.calls outside.old.host)
+        (E.Host.calls outside.new.host) (E.Input.remaining outside.old.input) (E.Output.contents outside.old.output)
         (E.Output.contents outside.new.output) result × (outside.new.errors ≡ outside.old.errors)) result }
     ensures unread { IsSome file.now → outside.new.input ≡ outside.old.input }
 {
     match file {
-        Some(path) => verify_file(alloc, outside, path),
+        Some(path) if later.is_empty() => verify_file(alloc, outside, path),
+        Some(path) => verify_files(alloc, outside, path, later),
         None => verify_input(
             alloc,
             &mut outside.input,

@@ -6,3 +6,4 @@ pub mod LogLemmas
 pub mod BeginLemmas
 pub mod ReaderLemmas
 pub mod StartText
+pub mod RenewedLemmas

@@ -1,6 +1,6 @@
 -- The log of the lines that are appended to a journal before a gateway starts.
 use Rattle.std.proofs.Common.{◌≡◌, ℕ, ◌+◌, ◌-◌, ◌≤◌, Bool, true, false, List, [], ◌∷◌, ◌++◌, Option, Some, None, Result, Ok, Err, OnErr, is_err, refl, sym, ap, subst, ◌∙◌, append_assoc, append-nil, arith}
-use Rattle.mg_ports.specs.declared.call.Call.TheVariants.{Append, BeginTick, Receive, Send}
+use Rattle.mg_ports.specs.declared.call.Call.TheVariants.{Append, BeginTick, Receive, Renew, Send}
 use Rattle.mg_journal.specs.declared.append_fault.AppendFault.{AppendFault}
 use Rattle.mg_journal.specs.declared.durability.Durability.{Durability}
 use Rattle.mg_host.specs.declared.host_call.HostCall.{HostCall}
@@ -27,6 +27,7 @@ writes_both (OnPorts (Append part durability (Err fault)) ∷ p) q a b h k = abs
 writes_both (OnPorts (Receive socket receipt) ∷ p) q a b h k = absurd h
 writes_both (OnPorts (Send socket to bytes) ∷ p) q a b h k = absurd h
 writes_both (OnPorts (BeginTick timing) ∷ p) q a b h k = absurd h
+writes_both (OnPorts (Renew text durability result) ∷ p) q a b h k = absurd h
 writes_both (OpenJournal path bytes ∷ p) q a b h k = absurd h
 writes_both (OpenText path text ∷ p) q a b h k = absurd h
 writes_both (ReadDate millis ∷ p) q a b h k = absurd h
@@ -45,6 +46,7 @@ writes_quiet (OnPorts (Append part durability (Err fault)) ∷ p) lines h = absu
 writes_quiet (OnPorts (Receive socket receipt) ∷ p) lines h = absurd h
 writes_quiet (OnPorts (Send socket to bytes) ∷ p) lines h = absurd h
 writes_quiet (OnPorts (BeginTick timing) ∷ p) lines h = absurd h
+writes_quiet (OnPorts (Renew text durability result) ∷ p) lines h = absurd h
 writes_quiet (OpenJournal path bytes ∷ p) lines h = absurd h
 writes_quiet (OpenText path text ∷ p) lines h = absurd h
 writes_quiet (ReadDate millis ∷ p) lines h = absurd h
@@ -64,6 +66,7 @@ quiet_both (OnPorts (Append part durability result) ∷ p) q h k = quiet_both p 
 quiet_both (OnPorts (Receive socket receipt) ∷ p) q h k = absurd h
 quiet_both (OnPorts (Send socket to bytes) ∷ p) q h k = absurd h
 quiet_both (OnPorts (BeginTick timing) ∷ p) q h k = absurd h
+quiet_both (OnPorts (Renew text durability outcome) ∷ p) q h k = absurd h
 quiet_both (OpenJournal path bytes ∷ p) q h k = absurd h
 quiet_both (OpenText path text ∷ p) q h k = absurd h
 quiet_both (Reported socket ∷ p) q h k = absurd h

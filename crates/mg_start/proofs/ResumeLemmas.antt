@@ -1,51 +1,25 @@
--- A gateway that is new because its journal is empty.
-use Rattle.std.proofs.Common.{◌≡◌, ℕ, false, true, List, [], Option, Some, None, Result, Ok, Err, refl, IfOk, IfSome}
-use Rattle.mg_core.specs.declared.state.CoreState.{CoreState}
-use Rattle.std.proofs.lemmas.List.Elements.{All-nil}
-use Rattle.mg_core.proofs.CountReadBack.{script_same}
-use Rattle.mg_core.proofs.RecordingLemmas.{recordings_are_read}
-use Rattle.mg_lines.specs.Lines.{lines_of}
-use Rattle.mg_core.specs.Recording.{IsRecorded}
-use Rattle.mg_core.specs.aids.Resume.{IsResumed}
-use Rattle.mg_core.specs.World.{start_of}
-use Rattle.mg_core.specs.aids.Stands.{StandsFor}
-use Rattle.mg_engine.specs.declared.config.Config.{Config}
+-- Facts about results, and about a journal without a timeline.
+use Rattle.std.proofs.Common.{◌≡◌, Option, Some, None, Result, Ok, Err, refl, IfOk, IfSome}
+use Rattle.std.specs.Prelude.{IsNone}
+use Rattle.std.specs.Option.{option_map_or}
 
--- A new gateway is resumed from a journal without lines, and so without events.
-pub new_resumed : (config : Config) (found : Option (List ℕ)) (state : CoreState)
-    → IfSome found (λ text. text ≡ []) → StandsFor state (start_of config)
-    → (rest : Option (List ℕ)) × IsResumed config found rest state
-new_resumed config None state empty stands = (
-  None,
-  record {
-    script = [];
-    read = record { consumed = tt; at_end = λ ended. tt };
-    events = [];
-    are = script_same false (lines_of true []) [] (recordings_are_read [] (All-nil IsRecorded));
-    sent = [];
-    world = start_of config;
-    history = ((refl, refl), stands);
-  },
-)
-new_resumed config (Some text) state empty stands = (
-  Some [],
-  record {
-    script = [];
-    read = record { consumed = empty; at_end = λ ended. refl };
-    events = [];
-    are = script_same false (lines_of true []) [] (recordings_are_read [] (All-nil IsRecorded));
-    sent = [];
-    world = start_of config;
-    history = ((refl, refl), stands);
-  },
-)
+none_is : {A : Type 0} (option : Option A) → IsNone option → option ≡ None
+none_is None none = refl
+none_is (Some a) none = absurd cc
 
-pub if_ok_map : {A E : Type 0} {P Q : A → Type 0} (result : Result A E) → ((a : A) → P a → Q a) → IfOk result P
-    → IfOk result Q
-if_ok_map (Ok a) f p = f a p
-if_ok_map (Err e) f p = tt
+-- If a journal has no timeline, there is none.
+pub no_times : {A B : Type 0} (times : A → Option B) (journal : Option A) → IfSome journal (λ j. IsNone (times j))
+    → option_map_or times journal None ≡ None
+no_times times None none = refl
+no_times times (Some j) none = none_is (times j) none
 
-pub if_ok_all : {A E : Type 0} {P Q R S : A → Type 0} (result : Result A E) → ((a : A) → P a → Q a → R a → S a)
+pub if_ok_three : {A E : Type 0} {P Q R S : A → Type 0} (result : Result A E) → ((a : A) → P a → Q a → R a → S a)
     → IfOk result P → IfOk result Q → IfOk result R → IfOk result S
-if_ok_all (Ok a) f p q r = f a p q r
-if_ok_all (Err e) f p q r = tt
+if_ok_three (Ok a) f p q r = f a p q r
+if_ok_three (Err e) f p q r = tt
+
+pub if_ok_four : {A E : Type 0} {P Q R S T : A → Type 0} (result : Result A E)
+    → ((a : A) → P a → Q a → R a → S a → T a)
+    → IfOk result P → IfOk result Q → IfOk result R → IfOk result S → IfOk result T
+if_ok_four (Ok a) f p q r s = f a p q r s
+if_ok_four (Err e) f p q r s = tt

@@ -14,7 +14,7 @@ use Rattle.mg_core.specs.Follow.{IsFollowed}
 use Rattle.mg_core.specs.Note.{Note, notes_of}
 use Rattle.mg_core.specs.Run.{HasRead}
 use Rattle.mg_core.specs.Script.{events_of}
-use Rattle.mg_core.specs.World.{start_of, world_after_ticks}
+use Rattle.mg_core.specs.World.{World, start_of, world_after_ticks}
 use Rattle.mg_core.specs.Recording.{IsRecorded}
 use Rattle.mg_core.specs.aids.Stands.{StandsFor}
 use Rattle.mg_core.proofs.CountReadBack.{script_same}
@@ -39,7 +39,8 @@ use Rattle.mg_arguments.specs.Draws.{IsDrawn}
 use Rattle.mg_arguments.specs.Given.{Agrees}
 use Rattle.mg_arguments.specs.Title.{title_line, title_text}
 use Rattle.mg_start.specs.Journal.{missed_after, start_lines, timeline_after}
-use Rattle.mg_start.specs.aids.Starting.{HasBegun, HasReached, HasWritten, KeepsTimes, PassesTicks, missed_by, title_before, CanResume, CanStart}
+use Rattle.mg_start.specs.aids.Starting.{HasBegun, HasWritten, KeepsTimes, PassesTicks, missed_by, title_before, CanResume, CanStart}
+use Rattle.mg_arguments.specs.Script.{HasScript}
 use Rattle.mg_start.specs.Start.{IsChosen, started_text}
 use Rattle.mg_start.proofs.LogLemmas.{grows_both}
 
@@ -71,48 +72,59 @@ read_whole text script None read = absurd read.consumed
 read_whole text script (Some left) read =
     read.consumed ∙ ap (λ (l : List ℕ). script ++ l) (read.at_end refl) ∙ append-nil script
 
-known_events : (text rest : Option (List ℕ)) (script : List ℕ) (events : List Event) → HasRead text rest script true
+known_events : (input rest : Option (List ℕ)) (script : List ℕ) (events : List Event) → HasRead input rest script true
     → events_of (journal_lines true script) ≡ Some events
-    → IfSome text (λ lines. events_of (journal_lines true lines) ≡ Some events)
+    → IfSome input (λ lines. events_of (journal_lines true lines) ≡ Some events)
 known_events None rest script events read are = tt
 known_events (Some text) rest script events read are =
     ap (λ (l : List ℕ). events_of (journal_lines true l)) (read_whole text script rest read) ∙ are
 
-known_notes : (text rest : Option (List ℕ)) (script : List ℕ) (notes : List Note) (reached : ℕ)
-    → HasRead text rest script true → notes_of (journal_lines true script) ≡ Some notes → Reaches 0 notes reached
-    → HasReached text reached
+-- A script has reached this number.
+abbrev HasReached : (input : Option (List ℕ)) → (reached : ℕ) → Type 0
+HasReached input reached = IfSome input (λ lines.
+    (notes : List Note) × (notes_of (journal_lines true lines) ≡ Some notes) × Reaches 0 notes reached)
+
+known_notes : (input rest : Option (List ℕ)) (script : List ℕ) (notes : List Note) (reached : ℕ)
+    → HasRead input rest script true → notes_of (journal_lines true script) ≡ Some notes → Reaches 0 notes reached
+    → HasReached input reached
 known_notes None rest script notes reached read are reaches = tt
 known_notes (Some text) rest script notes reached read are reaches =
     (notes, ap (λ (l : List ℕ). notes_of (journal_lines true l)) (read_whole text script rest read) ∙ are, reaches)
 
--- An empty journal has reached the number 0.
-reached_nothing : (text : Option (List ℕ)) → IfSome text (λ t. t ≡ []) → HasReached text 0
-unfolding lines_after expanded notes_of
-reached_nothing None empty = tt
-reached_nothing (Some text) empty = ([], ap (λ (l : List ℕ). notes_of (journal_lines true l)) empty, refl)
-
--- If `reached` is 0, an empty journal has reached this number.
-pub reached_anew : (text : Option (List ℕ)) (reached : ℕ) → IfSome text (λ t. t ≡ []) → reached ≡ 0
-    → HasReached text reached
-reached_anew text reached empty is = subst (λ (n : ℕ). HasReached text n) (sym is) (reached_nothing text empty)
-
-both_known : (text : Option (List ℕ)) (events : List Event) (reached : ℕ)
-    → IfSome text (λ lines. events_of (journal_lines true lines) ≡ Some events) → HasReached text reached
-    → IfSome text (λ lines. (events_of (journal_lines true lines) ≡ Some events)
+both_known : (input : Option (List ℕ)) (events : List Event) (reached : ℕ)
+    → IfSome input (λ lines. events_of (journal_lines true lines) ≡ Some events) → HasReached input reached
+    → IfSome input (λ lines. (events_of (journal_lines true lines) ≡ Some events)
     × ((notes : List Note) × (notes_of (journal_lines true lines) ≡ Some notes) × Reaches 0 notes reached))
 both_known None events reached are reaches = tt
 both_known (Some text) events reached are reaches = (are, reaches)
 
-pub resumes_from : (text rest : Option (List ℕ)) (config : Config) (state : CoreState) (reached : ℕ)
-    → IsResumed config text rest state → HasReached text reached → CanResume text config state reached
-resumes_from text rest config state reached r reaches = record {
+known_times : (input rest : Option (List ℕ)) (script : List ℕ) (notes : List Note) (timeline : Timeline)
+    → HasRead input rest script true → notes_of (journal_lines true script) ≡ Some notes
+    → timeline ≡ timeline_of (reverse notes) → IfSome input (λ found. timeline ≡ timeline_after found)
+known_times None rest script notes timeline read are is = tt
+known_times (Some text) rest script notes timeline read are is =
+    is ∙ sym (ap (λ (n : Option (List Note)). timeline_of (reverse (unwrap_or n [])))
+    (ap (λ (l : List ℕ). notes_of (journal_lines true l)) (read_whole text script rest read) ∙ are))
+
+-- A journal's script was run and followed to its end, so a gateway can resume.
+pub resumes_from : (text input rest : Option (List ℕ)) (config : Config) (base : World) (state : CoreState)
+    (timeline : Timeline) (reached : ℕ)
+    → IfSome text (λ t. t ≢ []) → HasScript text config base input → IsResumed base input rest state
+    → IsFollowed base input rest state (λ notes. (timeline ≡ timeline_of (reverse notes)) × Reaches 0 notes reached)
+    → CanResume text (Some timeline) config state reached
+resumes_from text input rest config base state timeline reached lines has r f = record {
+  base = base;
+  script = input;
+  has_script = has;
+  times = (lines, known_times input rest f.script f.notes timeline f.read f.are f.follows.0);
   world = r.world;
   stands = r.history.1;
   resumes = (
     r.events,
     r.sent,
     r.history.0,
-    both_known text r.events reached (known_events text rest r.script r.events r.read r.are) reaches,
+    both_known input r.events reached (known_events input rest r.script r.events r.read r.are)
+        (known_notes input rest f.script f.notes reached f.read f.are f.follows.1),
   );
 }
 
@@ -120,55 +132,51 @@ resumes_from text rest config state reached r reaches = record {
 no_events : events_of (journal_lines true []) ≡ Some []
 no_events = script_same false (lines_of true []) [] (recordings_are_read [] (All-nil IsRecorded))
 
-pub resumes_anew : (config : Config) (state : CoreState) (reached : ℕ) → StandsFor state (start_of config) → reached ≡ 0
-    → CanResume (Some []) config state reached
-resumes_anew config state reached stands none = record {
-  world = start_of config;
-  stands = stands;
-  resumes = ([], [], (refl, refl), both_known (Some []) [] reached no_events (reached_anew (Some []) reached refl none));
-}
+-- A journal without text reaches the number 0.
+reaches_nothing : (reached : ℕ) → reached ≡ 0
+    → (notes : List Note) × (notes_of (journal_lines true []) ≡ Some notes) × Reaches 0 notes reached
+unfolding lines_after expanded notes_of
+reaches_nothing reached none = ([], refl, none)
+
+nothing_known : (text : Option (List ℕ)) (reached : ℕ) → IfSome text (λ t. t ≡ []) → reached ≡ 0
+    → IfSome text (λ lines. (events_of (journal_lines true lines) ≡ Some [])
+    × ((notes : List Note) × (notes_of (journal_lines true lines) ≡ Some notes) × Reaches 0 notes reached))
+nothing_known None reached empty none = tt
+nothing_known (Some text) reached empty none =
+    subst (λ (l : List ℕ). (events_of (journal_lines true l) ≡ Some [])
+    × ((notes : List Note) × (notes_of (journal_lines true l) ≡ Some notes) × Reaches 0 notes reached))
+    (sym empty) (no_events, reaches_nothing reached none)
+
+-- A new gateway resumes from an empty journal.
+pub resumes_anew : (text : Option (List ℕ)) (timeline : Option Timeline) (config : Config) (state : CoreState)
+    (reached : ℕ) → IfSome text (λ t. t ≡ []) → timeline ≡ None → StandsFor state (start_of config) → reached ≡ 0
+    → CanResume text timeline config state reached
+resumes_anew text timeline config state reached empty new stands none =
+    subst (λ (t : Option Timeline). CanResume text t config state reached) (sym new) (record {
+      base = start_of config;
+      script = text;
+      has_script = inl (refl, refl);
+      times = (empty, empty);
+      world = start_of config;
+      stands = stands;
+      resumes = ([], [], (refl, refl), nothing_known text reached empty none);
+    })
 
 -- After the title (if the journal is new) and the lines for the start were appended, the journal's text is
 -- `started_text`.
 writes : (timeline : Option Timeline) (config : Config) (missed : ℕ) (fence : Option ℕ) (text : Option (List ℕ))
-    (journal : JournalState)
-    → KeepsTimes timeline text → HasBegun (title_before timeline config) missed fence text journal
+    (script : Option (List ℕ)) (journal : JournalState)
+    → KeepsTimes timeline text script → HasBegun (title_before timeline config) missed fence text journal
     → journal.text ≡ option_map (started_text config missed fence) text
-writes None config missed fence None journal keeps begins = begins.text
-writes None config missed fence (Some []) journal keeps begins = begins.text
-writes None config missed fence (Some (byte ∷ text)) journal keeps begins = absurd cc
-writes (Some timeline) config missed fence None journal keeps begins = begins.text
-writes (Some timeline) config missed fence (Some []) journal keeps begins = absurd (keeps.0 refl)
-writes (Some timeline) config missed fence (Some (byte ∷ text)) journal keeps begins =
+writes None config missed fence None script journal keeps begins = begins.text
+writes None config missed fence (Some []) script journal keeps begins = begins.text
+writes None config missed fence (Some (byte ∷ text)) script journal (empty, none) begins = absurd cc
+writes (Some timeline) config missed fence None script journal keeps begins = begins.text
+writes (Some timeline) config missed fence (Some []) script journal keeps begins = absurd (keeps.0 refl)
+writes (Some timeline) config missed fence (Some (byte ∷ text)) script journal keeps begins =
     begins.text ∙ ap (λ (l : List ℕ). Some (l ++ start_lines missed fence)) (append-nil (byte ∷ text))
 
 -- ## Missed ticks
-
-known_times : (text rest : Option (List ℕ)) (script : List ℕ) (notes : List Note) (timeline : Timeline)
-    → HasRead text rest script true → notes_of (journal_lines true script) ≡ Some notes
-    → timeline ≡ timeline_of (reverse notes) → IfSome text (λ found. timeline ≡ timeline_after found)
-known_times None rest script notes timeline read are is = tt
-known_times (Some text) rest script notes timeline read are is =
-    is ∙ sym (ap (λ (n : Option (List Note)). timeline_of (reverse (unwrap_or n [])))
-    (ap (λ (l : List ℕ). notes_of (journal_lines true l)) (read_whole text script rest read) ∙ are))
-
--- After a journal was followed to its end, the timeline is that of its text.
-pub times_from : (config : Config) (text rest : Option (List ℕ)) (state : CoreState) (timeline : Timeline) (reached : ℕ)
-    → IsFollowed config text rest state (λ notes. (timeline ≡ timeline_of (reverse notes)) × Reaches 0 notes reached)
-    → IfSome text (λ found. timeline ≡ timeline_after found)
-times_from config text rest state timeline reached f =
-    known_times text rest f.script f.notes timeline f.read f.are f.follows.0
-
-pub reached_from : (config : Config) (text rest : Option (List ℕ)) (state : CoreState) (timeline : Timeline) (reached : ℕ)
-    → IsFollowed config text rest state (λ notes. (timeline ≡ timeline_of (reverse notes)) × Reaches 0 notes reached)
-    → HasReached text reached
-reached_from config text rest state timeline reached f =
-    known_notes text rest f.script f.notes reached f.read f.are f.follows.1
-
-pub times_kept : (timeline : Timeline) (text : Option (List ℕ)) → IfSome text (λ found. found ≢ [])
-    → IfSome text (λ found. timeline ≡ timeline_after found) → KeepsTimes (Some timeline) text
-times_kept timeline None lines is = tt
-times_kept timeline (Some text) lines is = (lines, is)
 
 -- The timeline of a new journal is the timeline after no notes.
 pub new_times : record { start = None; ticks = 0 } ≡ timeline_of (reverse [])
@@ -187,55 +195,70 @@ times_missed timeline text None is = refl
 times_missed timeline text (Some millis) is =
     ap (λ (t : Timeline). missed_since t (record { millis = millis })) is
 
--- The number of missed ticks and the appended lines agree with the text of the journal.
-lines_begun : (timeline : Option Timeline) (config : Config) (missed : ℕ) (fence : Option ℕ) (millis : Option ℕ)
-    (text : Option (List ℕ))
-    → missed ≡ missed_by timeline millis → KeepsTimes timeline text
-    → IfSome text (λ found. (missed ≡ missed_after found millis)
-    × (started_text config missed fence found ≡ found ++ (title_before timeline config ++ start_lines missed fence)))
-lines_begun timeline config missed fence millis None is keeps = tt
-lines_begun None config missed fence millis (Some []) is keeps = (is ∙ none_missed millis, refl)
-lines_begun None config missed fence millis (Some (byte ∷ text)) is keeps = absurd cc
-lines_begun (Some timeline) config missed fence millis (Some []) is keeps = absurd (keeps.0 refl)
-lines_begun (Some timeline) config missed fence millis (Some (byte ∷ text)) is keeps =
-    (is ∙ times_missed timeline (byte ∷ text) millis keeps.1, refl)
+-- The number of missed ticks agrees with the script of the journal.
+ticks_missed : (timeline : Option Timeline) (missed : ℕ) (millis : Option ℕ) (found script : Option (List ℕ))
+    → missed ≡ missed_by timeline millis → KeepsTimes timeline found script
+    → IfSome script (λ since. missed ≡ missed_after since millis)
+ticks_missed timeline missed millis found None is keeps = tt
+ticks_missed None missed millis found (Some text) is keeps =
+    is ∙ none_missed millis ∙ ap (λ (l : List ℕ). missed_after l millis) (sym keeps.1)
+ticks_missed (Some timeline) missed millis found (Some text) is keeps = is ∙ times_missed timeline text millis keeps.1
+
+-- The appended lines agree with the text of the journal.
+lines_begun : (timeline : Option Timeline) (config : Config) (missed : ℕ) (fence : Option ℕ)
+    (text script : Option (List ℕ)) → KeepsTimes timeline text script
+    → IfSome text (λ found. started_text config missed fence found
+    ≡ found ++ (title_before timeline config ++ start_lines missed fence))
+lines_begun timeline config missed fence None script keeps = tt
+lines_begun None config missed fence (Some []) script keeps = refl
+lines_begun None config missed fence (Some (byte ∷ text)) script (empty, none) = absurd cc
+lines_begun (Some timeline) config missed fence (Some []) script keeps = absurd (keeps.0 refl)
+lines_begun (Some timeline) config missed fence (Some (byte ∷ text)) script keeps = refl
 
 pub starts_from : (path : List ℕ) (text : Option (List ℕ)) (config : Config) (old new : CoreState)
     (timeline : Option Timeline) (missed : ℕ) (fence millis : Option ℕ) (reached : ℕ) (journal : JournalState)
-    (bound read begun : Option (List HostCall)) → CanResume text config old reached → KeepsTimes timeline text
+    (bound read begun : Option (List HostCall)) → CanResume text timeline config old reached
     → missed ≡ missed_by timeline millis → Grows bound read (ReadDate millis ∷ []) → PassesTicks missed old new
     → HasBegun (title_before timeline config) missed fence text journal
     → HasWritten read begun (title_before timeline config ++ start_lines missed fence)
     → CanStart (Some path) text fence config new reached journal bound begun
-starts_from path text config old new timeline missed fence millis reached journal bound read begun can keeps is grows passes begins (calls, more, written) = record {
+starts_from path text config old new timeline missed fence millis reached journal bound read begun can is grows passes begins (calls, more, written) = record {
   world = world_after_ticks missed can.world;
   stands = passes can.world can.stands;
   started = record {
+    base = can.base;
+    script = can.script;
+    has_script = can.has_script;
     missed = missed;
     resumed = can.world;
     resumes = can.resumes;
     starts = refl;
     works = λ some. begins.works;
-    writes = λ some. writes timeline config missed fence text journal keeps begins;
+    writes = λ some. writes timeline config missed fence text can.script journal can.times begins;
     begins = (
       millis,
       calls,
       title_before timeline config ++ start_lines missed fence,
       grows_both bound read begun (ReadDate millis ∷ []) calls grows more,
       written,
-      lines_begun timeline config missed fence millis text is keeps,
+      ticks_missed timeline missed millis text can.script is can.times,
+      lines_begun timeline config missed fence text can.script can.times,
     );
   };
 }
 
 -- A gateway without a journal can start if it can resume.
-pub starts_anew : (text : Option (List ℕ)) (fence : Option ℕ) (config : Config) (state : CoreState) (reached : ℕ)
-    (journal : JournalState) (calls : Option (List HostCall)) → CanResume text config state reached
+pub starts_anew : (text : Option (List ℕ)) (timeline : Option Timeline) (fence : Option ℕ) (config : Config)
+    (state : CoreState) (reached : ℕ) (journal : JournalState) (calls : Option (List HostCall))
+    → CanResume text timeline config state reached
     → CanStart None text fence config state reached journal calls calls
-starts_anew text fence config state reached journal calls can = record {
+starts_anew text timeline fence config state reached journal calls can = record {
   world = can.world;
   stands = can.stands;
   started = record {
+    base = can.base;
+    script = can.script;
+    has_script = can.has_script;
     missed = 0;
     resumed = can.world;
     resumes = can.resumes;

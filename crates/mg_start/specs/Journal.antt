@@ -40,7 +40,7 @@ Writes (OnPorts (Append part durability (Ok done)) ∷ calls) lines =
     (rest : List ℕ) × (lines ≡ part ++ rest) × Writes calls rest
 Writes (call ∷ calls) lines = ⊥
 
--- The timeline of a journal's ticks, according to the dates in its comments.
+-- The timeline of a script's ticks, according to the dates in its comments.
 abbrev pub timeline_after : (text : List ℕ) → Timeline
 timeline_after text = timeline_of (reverse (unwrap_or (notes_of (journal_lines true text)) []))
 

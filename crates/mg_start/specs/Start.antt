@@ -11,7 +11,7 @@ use Rattle.mg_core.specs.declared.event.Event.{Event}
 use Rattle.mg_core.specs.Note.{Note, notes_of}
 use Rattle.mg_core.specs.Script.{events_of}
 use Rattle.mg_core.specs.Step.{Sent, Run}
-use Rattle.mg_core.specs.World.{World, start_of, world_after_ticks}
+use Rattle.mg_core.specs.World.{World, world_after_ticks}
 use Rattle.mg_fence.specs.Reached.{Reaches}
 use Rattle.mg_journal.specs.Journal.{JournalState}
 use Rattle.mg_journal.specs.Text.{whole_lines}
@@ -25,6 +25,7 @@ use Rattle.mg_arguments.specs.declared.draws.Draws.{Draws}
 use Rattle.mg_arguments.specs.declared.given.Given.{Given}
 use Rattle.mg_arguments.specs.Draws.{IsDrawn}
 use Rattle.mg_arguments.specs.Given.{Agrees}
+use Rattle.mg_arguments.specs.Script.{HasScript}
 use Rattle.mg_arguments.specs.Title.{title_line}
 use Rattle.mg_start.specs.Journal.{Writes, missed_after, start_lines}
 
@@ -63,12 +64,12 @@ IsChosen (Some (byte ∷ text)) given draws config chosen =
     Agrees given config chosen × StartsWith (byte ∷ text) (title_line chosen)
     × ((seals_of (byte ∷ text)).wrong ≡ None)
 
--- The world in which a gateway is resumed, and the number that its messages have reached. If the journal's text is
--- known, exactly its events have happened in this world, and its notes reach this number.
-abbrev pub ResumesIn : (text : Option (List ℕ)) → Config → World → (reached : ℕ) → Type 0
-ResumesIn text config w reached =
-    (events : List Event) × (sent : List Sent) × Run (start_of config) events sent w
-    × IfSome text (λ lines. (events_of (journal_lines true lines) ≡ Some events)
+-- The world in which a gateway is resumed that began in the world `base`, and the number that its messages have reached.
+-- If the journal's script is known, exactly its events have happened in this world, and its notes reach this number.
+abbrev pub ResumesIn : (script : Option (List ℕ)) → (base w : World) → (reached : ℕ) → Type 0
+ResumesIn script base w reached =
+    (events : List Event) × (sent : List Sent) × Run base events sent w
+    × IfSome script (λ lines. (events_of (journal_lines true lines) ≡ Some events)
     × ((notes : List Note) × (notes_of (journal_lines true lines) ≡ Some notes) × Reaches 0 notes reached))
 
 -- The text of the journal when a gateway starts: the text that was found or, for a new journal, the title of the
@@ -78,26 +79,29 @@ started_text config missed fence [] = title_line config ++ start_lines missed fe
 started_text config missed fence (byte ∷ found) = (byte ∷ found) ++ start_lines missed fence
 
 -- The calls on the host before a gateway starts. If there is a journal, the date is read, and lines are appended to the
--- journal. If the journal's text is known, these lines depend only on the text, the date, the configuration and the
--- fence. Without a journal, there are no calls, and no ticks were missed.
-abbrev pub Begins : (journal text : Option (List ℕ)) → Config → (missed : ℕ) → (fence : Option ℕ)
-    → (old new : Option (List HostCall)) → Type 0
-Begins None text config missed fence old new = (new ≡ old) × (missed ≡ 0)
-Begins (Some path) text config missed fence old new =
+-- journal. If the journal's text and its script are known, these lines depend only on the text, the dates in the script,
+-- the date, the configuration and the fence. Without a journal, there are no calls, and no ticks were missed.
+abbrev pub Begins : (journal text script : Option (List ℕ)) → Config → (missed : ℕ)
+    → (fence : Option ℕ) → (old new : Option (List HostCall)) → Type 0
+Begins None text script config missed fence old new = (new ≡ old) × (missed ≡ 0)
+Begins (Some path) text script config missed fence old new =
     (millis : Option ℕ) × (calls : List HostCall) × (lines : List ℕ)
     × Grows old new (ReadDate millis ∷ calls) × Writes calls lines
-    × IfSome text (λ found. (missed ≡ missed_after found millis)
-    × (started_text config missed fence found ≡ found ++ lines))
+    × IfSome script (λ since. missed ≡ missed_after since millis)
+    × IfSome text (λ found. started_text config missed fence found ≡ found ++ lines)
 
 -- A gateway has started in the world `start`: it was resumed from its journal, if it has one, and has run the missed
 -- ticks. `reached` is the number that its journal had reached before the start. If there is a journal, it works.
 pub record HasStarted (journal text : Option (List ℕ)) (fence : Option ℕ) (config : Config)
     (start : World) (reached : ℕ) (before : JournalState) (bound begun : Option (List HostCall))
     : Type 0 where
+  pub base : World
+  pub script : Option (List ℕ)
+  pub has_script : HasScript text config base script
   pub missed : ℕ
   pub resumed : World
-  pub resumes : ResumesIn text config resumed reached
+  pub resumes : ResumesIn script base resumed reached
   pub starts : start ≡ world_after_ticks missed resumed
   pub works : IsSome journal → before.is_broken ≡ false
   pub writes : IsSome journal → before.text ≡ option_map (started_text config missed fence) text
-  pub begins : Begins journal text config missed fence bound begun
+  pub begins : Begins journal text script config missed fence bound begun

@@ -1,9 +1,9 @@
-ghost use Rattle.std.specs.Prelude.{◌≡◌, [], Some, IfErr, IfOk, IfSome, IsSome, OnErr, OnOk};
+ghost use Rattle.std.specs.Prelude.{◌≡◌, [], None, Some, IfErr, IfOk, IsSome, OnErr, OnOk};
 ghost use Rattle.std.specs.Option.{option_map_or};
 ghost use Rattle.mg_journal.specs.Journal.{no_journal};
 ghost use Rattle.mg_journal.specs.aids.Opened.{text_in};
 ghost use Rattle.mg_start.specs.Journal.{RunsNoSession};
-ghost use Rattle.mg_start.specs.aids.Starting.{KeepsTimes, CanResume, CanStart};
+ghost use Rattle.mg_start.specs.aids.Starting.{CanResume, CanStart};
 ghost use Rattle.mg_start.specs.Start.{FailsToStart};
 
 use crate::found_journal::FoundJournal;
@@ -22,9 +22,8 @@ pub fn begin_journal<'a, E: Environment>(
     errors: &mut E::Errors,
 ) -> Result<KeptJournal<'a, E>, Status>
     requires resumed { CanResume (option_map_or (λ j. text_in j.opening.file) found (Some []))
-        gateway.old.config gateway.old.core.state gateway.old.reached }
+        (option_map_or (λ j. j.timeline) found None) gateway.old.config gateway.old.core.state gateway.old.reached }
     requires found { IsSome gateway.old.service.now.journal → IsSome found }
-    requires times { IfSome found (λ j. KeepsTimes j.timeline (text_in j.opening.file)) }
     ensures started { IfOk result (λ journal. CanStart gateway.old.service.now.journal
         (option_map_or (λ j. text_in j.opening.file) found (Some [])) gateway.old.service.now.fence_from
         gateway.old.config gateway.new.core.state gateway.old.reached

@@ -12,9 +12,9 @@ ghost use Rattle.mg_arguments.specs.Title.{title_line};
 use crate::gateway::Gateway;
 use crate::journal_fault::JournalFault;
 use crate::start::Start;
+use crate::title::title_line;
 use arrayvec::ArrayVec;
 use itoa::Buffer;
-use mg_arguments::{TITLE_LIMIT, title_of};
 use mg_core::{Config, ticks_line};
 use mg_dates::{Date, DatedJournal, Timeline};
 use mg_host::{Dates, Environment, System, Tells};
@@ -22,38 +22,12 @@ use mg_journal::{AppendFault, Durability, FileJournal, Journal, JournalFile, Ope
 use std::alloc::AllocError;
 use std::io::{self, ErrorKind};
 
-/// The maximum length of a title's line, in bytes.
-const TITLE_ROOM: usize = TITLE_LIMIT + 3;
-
-/// The line of a title, with its line feed.
-type TitleLine = ArrayVec<u8, TITLE_ROOM>;
-
 /// A journal before anything is appended to it.
 #[derive(Drop)]
 pub struct FoundJournal<F: JournalFile> {
     pub opening: Opening<F>,
     /// The timeline of the journal's ticks, or `None` for a new journal.
     pub timeline: Option<Timeline>,
-}
-
-/// Appends bytes to a title's line.
-fn push(line: &mut TitleLine, text: &[u8])
-    requires room { length line.old.items + length text.now ≤ TITLE_ROOM }
-    ensures value { line.new.items ≡ line.old.items ++ text.now }
-{
-    let _ = line.try_extend_from_slice(text);
-}
-
-/// Returns the first line of a new journal.
-fn title_line(config: &Config) -> TitleLine
-    ensures value { result.items ≡ title_line config.now }
-{
-    let title = title_of(config);
-    let mut line = TitleLine::new();
-    push(&mut line, b"# ");
-    push(&mut line, title.as_slice());
-    push(&mut line, b"\n");
-    line
 }
 
 /// Appends lines to a journal.

@@ -2,30 +2,27 @@ ghost use Rattle.std.specs.Prelude.{◌≡◌, ◌≢◌, ◌++◌, ℕ, List, O
 ghost use Rattle.std.specs.Io.{StartsWith};
 ghost use Rattle.mg_journal.specs.Text.{whole_lines};
 ghost use Rattle.mg_journal.specs.aids.Opened.{text_in};
-ghost use Rattle.mg_core.specs.aids.Resume.{IsResumed};
 ghost use Rattle.mg_chain.specs.Seals.{seals_of};
 ghost use Rattle.mg_engine.specs.Config.{IsValidConfig};
 ghost use Rattle.mg_arguments.specs.Given.{Agrees};
 ghost use Rattle.mg_arguments.specs.Title.{title_line};
-ghost use Rattle.mg_start.specs.Journal.{timeline_after};
-ghost use Rattle.mg_start.specs.aids.Starting.{HasReached, KeepsTimes, may_be_title};
+ghost use Rattle.mg_start.specs.aids.Starting.{CanResume, may_be_title};
 
+use crate::faults::{read_fault, run_fault};
 use crate::journal_fault::JournalFault;
 use crate::journal_reader::JournalReader;
 use crate::reading::{FileKey, Reading};
+use crate::renewed::{is_renewed, run_renewed};
+use crate::resumed::Resumed;
+use crate::title::FRONT;
 use memchr::memchr;
 use mg_arguments::{ConfigFault, Given, titled};
 use mg_chain::read_seals;
-use mg_core::{Config, Core, RunFault, resume};
+use mg_core::{Config, Core, resume};
 use mg_dates::Timeline;
 use mg_journal::{JournalFile, Opening};
 use std::alloc::Global;
-use std::io::{self, ErrorKind};
 use std::marker::Brand;
-
-/// The number of bytes at the journal's start that must contain the title and its line feed. A title has at most 512
-/// bytes.
-const FRONT: usize = 1024;
 
 /// The beginning of a title's line.
 const TITLE_START: &[u8] = b"# mg_bridge replay ";
@@ -38,15 +35,6 @@ pub(crate) struct History {
     pub timeline: Timeline,
     /// The number that the journal's messages have reached. A fence begins at this number unless an operator sets it.
     pub reached: u32,
-}
-
-/// A journal whose events were run, the gateway after these events, and a reader with the journal's timeline and
-/// number.
-#[derive(Drop)]
-struct Resumed<F: JournalFile> {
-    opening: Opening<F>,
-    core: Core,
-    reader: JournalReader,
 }
 
 /// A journal, and the state of its gateway after the journal's events. If the journal is empty, the state is `None`.
@@ -136,14 +124,6 @@ fn check_config(given: &Given, wanted: &Config, config: &Config) -> Result<(), J
     }
 }
 
-/// Returns the fault for a journal that couldn't be read.
-fn read_fault(error: io::Error) -> JournalFault {
-    match error.kind() {
-        ErrorKind::OutOfMemory => JournalFault::NoMemory,
-        _ => JournalFault::Read(error),
-    }
-}
-
 /// Checks the seals in a journal. Returns the journal, which is at its first line again.
 fn check_seals<F: JournalFile, K: FileKey>(
     alloc: Global,
@@ -170,17 +150,7 @@ where
     Ok(opening)
 }
 
-/// Returns the fault for a journal that couldn't be run.
-fn fault_of(fault: RunFault) -> JournalFault {
-    match fault {
-        RunFault::Script(line) => JournalFault::BadLine(line),
-        // The reader of a journal stops only if memory runs out.
-        RunFault::NoMemory | RunFault::Write => JournalFault::NoMemory,
-        _ => JournalFault::Read(io::Error::from(ErrorKind::Other)),
-    }
-}
-
-/// Runs the events of a journal without sending anything.
+/// Runs the events of a journal that wasn't renewed, without sending anything.
 fn run_events<F: JournalFile, K: FileKey>(
     alloc: Global,
     config: Config,
@@ -190,11 +160,10 @@ where
     F: Drop,
     requires front { opening.read ≡ 0 }
     requires file { opening.file ≡ K.file }
+    requires lines { IfSome (text_in opening.file) (λ text. text ≢ []) }
     ensures file { IfOk result (λ r. r.opening.file ≡ K.file) }
-    ensures resumed { IfOk result (λ r. (rest : Option (List ℕ)) ×
-        IsResumed config (text_in opening.file) rest r.core.state) }
-    ensures times { IfOk result (λ r. IfSome (text_in opening.file) (λ text. r.reader.timeline ≡ timeline_after text)) }
-    ensures reached { IfOk result (λ r. HasReached (text_in opening.file) r.reader.fence.reached) }
+    ensures resumed { IfOk result (λ r. CanResume (text_in opening.file) (Some r.reader.timeline) config r.core.state
+        r.reader.fence.reached) }
 {
     let mut reading = Reading::<F, K>::new(opening);
     let mut reader = JournalReader::new(alloc);
@@ -204,7 +173,30 @@ where
             core,
             reader,
         }),
-        Err(fault) => Err(fault_of(fault)),
+        Err(fault) => Err(run_fault(0, fault)),
+    }
+}
+
+/// Runs the events of a journal without sending anything. If the journal was renewed, restores the gateway first.
+fn run<F: JournalFile, K: FileKey>(
+    alloc: Global,
+    config: Config,
+    opening: Opening<F>,
+) -> Result<Resumed<F>, JournalFault>
+where
+    F: Drop,
+    requires front { opening.read ≡ 0 }
+    requires file { opening.file ≡ K.file }
+    requires lines { IfSome (text_in opening.file) (λ text. text ≢ []) }
+    ensures file { IfOk result (λ r. r.opening.file ≡ K.file) }
+    ensures resumed { IfOk result (λ r. CanResume (text_in opening.file) (Some r.reader.timeline) config r.core.state
+        r.reader.fence.reached) }
+{
+    let mut opening = opening;
+    if is_renewed(&config, &mut opening)? {
+        run_renewed::<F, K>(alloc, config, opening)
+    } else {
+        run_events::<F, K>(alloc, config, opening)
     }
 }
 
@@ -224,16 +216,14 @@ where
     ensures title { IfOk result (λ f. f.history ≡ None →
         IfSome opening.file.bytes (λ bytes. may_be_title bytes ≡ true)) }
     ensures lines { IfOk result (λ f. IsSome f.history → IfSome (text_in opening.file) (λ text. text ≢ [])) }
-    ensures times { IfOk result (λ f. IfSome f.history (λ h. KeepsTimes (Some h.timeline) (text_in opening.file))) }
     ensures sound { IfOk result (λ f. IfSome f.history (λ h. IsValidConfig h.config)) }
     ensures agrees { IfOk result (λ f. IfSome f.history (λ h. Agrees given.now wanted.now h.config)) }
     ensures sealed { IfOk result (λ f. IsSome f.history →
         IfSome (text_in opening.file) (λ text. (seals_of text).wrong ≡ None)) }
     ensures titled { IfOk result (λ f. IfSome f.history (λ h.
         IfSome (text_in opening.file) (λ text. StartsWith text (title_line h.config)))) }
-    ensures resumed { IfOk result (λ f. IfSome f.history (λ h. (rest : Option (List ℕ)) ×
-        IsResumed h.config (text_in opening.file) rest h.core.state)) }
-    ensures reached { IfOk result (λ f. IfSome f.history (λ h. HasReached (text_in opening.file) h.reached)) }
+    ensures resumed { IfOk result (λ f. IfSome f.history (λ h.
+        CanResume (text_in opening.file) (Some h.timeline) h.config h.core.state h.reached)) }
 {
     let mut opening = opening;
     let Some(config) = config_in(alloc, &mut opening)? else {
@@ -244,7 +234,7 @@ where
     };
     check_config(given, wanted, &config)?;
     let opening = check_seals::<F, Brand>(alloc, opening)?;
-    let resumed = run_events::<F, Brand>(alloc, config, opening)?;
+    let resumed = run::<F, Brand>(alloc, config, opening)?;
     Ok(Found {
         opening: resumed.opening,
         history: Some(History {

@@ -20,6 +20,8 @@ pub enum JournalFault {
     BadConfig(ConfigFault),
     #[error("line 1 has another {0}")]
     Differs(&'static str),
+    #[error("line {0} isn't a line of a checkpoint")]
+    BadCheckpoint(u64),
     #[error("line {0} isn't a line of a script")]
     BadLine(u64),
     #[error("line {0} is a wrong seal: a line before it was changed")]
@@ -47,6 +49,7 @@ impl JournalFault {
             JournalFault::NoTitle
             | JournalFault::BadConfig(_)
             | JournalFault::Differs(_)
+            | JournalFault::BadCheckpoint(_)
             | JournalFault::BadLine(_)
             | JournalFault::Changed(_) => Status::BadJournal,
         }

@@ -32,7 +32,7 @@ impl Follower for JournalReader {
 
     ghost may_stop = { true };
 
-    ghost follows = { λ start r config notes.
+    ghost follows = { λ start r base notes.
         (r.timeline ≡ timeline_of (reverse notes)) × Reaches 0 notes r.fence.reached };
 
     fn comment(&mut self, number: u64, line: &[u8]) -> Result<(), Stopped> {

@@ -1,7 +1,8 @@
 //! How a gateway starts: with a new core, or from its journal.
 //!
-//! [`prepare`] creates a new gateway, or runs the events of its journal. After the ports are bound, [`begin_journal`]
-//! skips the ticks that the gateway missed, and starts appending:
+//! [`prepare`] creates a new gateway, or runs the events of its journal. If the journal was renewed, it begins with a
+//! checkpoint, and the gateway is restored from that first. After the ports are bound, [`begin_journal`] skips the ticks
+//! that the gateway missed, and starts appending:
 //!
 //! ```rust
 //! let prepared = prepare(&system, &mut host, requested, &mut errors)?;
@@ -18,6 +19,7 @@
 #![tactic(auto)]
 
 mod beginning;
+mod faults;
 mod found_journal;
 mod gateway;
 mod history;
@@ -26,9 +28,13 @@ mod journal_reader;
 mod kept_journal;
 mod prepared;
 mod reading;
+mod renewed;
 mod requested;
+mod restored;
+mod resumed;
 mod start;
 pub mod theorems;
+mod title;
 
 pub use crate::beginning::begin_journal;
 pub use crate::found_journal::FoundJournal;

@@ -1,12 +1,11 @@
-ghost use Rattle.std.specs.Prelude.{◌≡◌, ℕ, [], List, Option, Some, None, IfErr, IfOk, IfSome, IsNone, IsSome, MatchResult, OnOk};
+ghost use Rattle.std.specs.Prelude.{◌≡◌, [], Some, None, IfErr, IfOk, IfSome, IsNone, IsSome, MatchResult, OnOk};
 ghost use Rattle.std.specs.Option.{option_map_or};
 ghost use Rattle.mg_engine.specs.Config.{IsValidConfig};
-ghost use Rattle.mg_core.specs.aids.Resume.{IsResumed};
 ghost use Rattle.mg_core.specs.World.{start_of};
 ghost use Rattle.mg_core.specs.aids.Stands.{StandsFor};
 ghost use Rattle.mg_journal.specs.aids.Opened.{text_in};
 ghost use Rattle.mg_arguments.specs.Draws.{IsDrawn};
-ghost use Rattle.mg_start.specs.aids.Starting.{HasReached, KeepsTimes, CanResume};
+ghost use Rattle.mg_start.specs.aids.Starting.{CanResume};
 ghost use Rattle.mg_start.specs.Start.{FailsToStart, Finds, IsChosen, Opens};
 
 use crate::found_journal::FoundJournal;
@@ -122,11 +121,9 @@ where
     ensures sound { IfOk result (λ p. IsValidConfig p.config) }
     ensures chosen { IfOk result (λ p. IsChosen (text_in opening.file) requested.entry.service.now.given
         requested.entry.draws requested.entry.config p.config) }
-    ensures resumed { IfOk result (λ p. (rest : Option (List ℕ)) ×
-        IsResumed p.config (text_in opening.file) rest p.core.state) }
-    ensures reached { IfOk result (λ p. HasReached (text_in opening.file) p.reached) }
+    ensures resumed { IfOk result (λ p. CanResume (text_in opening.file)
+        (option_map_or (λ j. j.timeline) p.journal None) p.config p.core.state p.reached) }
     ensures file { IfOk result (λ p. option_map_or (λ j. text_in j.opening.file) p.journal (Some []) ≡ text_in opening.file) }
-    ensures times { IfOk result (λ p. IfSome p.journal (λ j. KeepsTimes j.timeline (text_in j.opening.file))) }
     ensures found { IfOk result (λ p. IsSome p.journal) }
     ensures quiet { OnOk result (errors.new ≡ errors.old) }
     ensures ends { IfErr result (FailsToStart requested.entry.config) }
@@ -198,9 +195,8 @@ pub fn prepare<E: Environment>(
     ensures chosen { IfOk result (λ p. IsChosen (option_map_or (λ j. text_in j.opening.file) p.journal (Some []))
         requested.entry.service.now.given requested.entry.draws requested.entry.config p.config) }
     ensures resumed { IfOk result (λ p. CanResume (option_map_or (λ j. text_in j.opening.file) p.journal (Some []))
-        p.config p.core.state p.reached) }
+        (option_map_or (λ j. j.timeline) p.journal None) p.config p.core.state p.reached) }
     ensures found { IfOk result (λ p. IsSome requested.entry.service.now.journal → IsSome p.journal) }
-    ensures times { IfOk result (λ p. IfSome p.journal (λ j. KeepsTimes j.timeline (text_in j.opening.file))) }
     ensures quiet { OnOk result (errors.new ≡ errors.old) }
     ensures ends { IfErr result (FailsToStart requested.entry.config) }
 {

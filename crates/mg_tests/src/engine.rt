@@ -342,7 +342,7 @@ fn isolate_by_an_edit(
     assert_equal(rt, third_payloads(alloc, engine, outbox)?.as_slice(), want);
     assert_equal(rt, engine.total(1, 0), Some(32124));
     assert!(rt; !engine.flow(1, 3) && !engine.flow(3, 1) && engine.flow(1, 2));
-    assert!(rt; !engine.hears(1, 3) && engine.hears(2, 1) && !engine.hears(1, 1));
+    assert!(rt; !engine.hears(3, 1) && engine.hears(1, 2) && !engine.hears(1, 1));
     Ok(())
 }
 

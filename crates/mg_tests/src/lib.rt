@@ -6,6 +6,8 @@
 #![tactic(auto)]
 
 #[cfg(test)]
+mod checkpoints;
+#[cfg(test)]
 mod dates;
 #[cfg(test)]
 mod engine;
@@ -17,6 +19,8 @@ mod machine;
 mod recording;
 #[cfg(test)]
 mod reply;
+#[cfg(test)]
+mod restoring;
 #[cfg(test)]
 mod rooms;
 #[cfg(test)]

@@ -119,19 +119,15 @@ impl<'a, C: Clock> SystemHost<'a, C> {
 
 impl<'a, C: Clock> Tells for SystemHost<'a, C> {
     fn log_append(&mut self, _: &[u8], _: Durability, _: Result<(), AppendFault>) {}
+
+    fn log_renewal(&mut self, _: &[u8], _: Durability, _: Result<(), AppendFault>) {}
 }
 
 impl<'a, C: Clock> Journals for SystemHost<'a, C> {
-    type File = DiskFile;
+    type File = DiskFile<'a>;
 
-    fn open_journal(&mut self, path: &str) -> io::Result<DiskFile> {
-        let file = OpenOptions::new()
-            .read(true)
-            .append(true)
-            .create(true)
-            .open(self.system, path)?;
-        file.try_lock()?;
-        Ok(DiskFile::new(file))
+    fn open_journal(&mut self, path: &str) -> io::Result<DiskFile<'a>> {
+        DiskFile::open(self.system, path)
     }
 }
 

@@ -17,9 +17,9 @@ fn kind<T: Drop>(outcome: io::Result<T>) -> Option<ErrorKind> {
 
 /// Another program empties the file after the file is opened and before it is read. Returns whether a read and then the
 /// acceptance fail, and the file stays empty.
-fn is_never_extended(rt: &HostRuntime, path: &str) -> io::Result<bool> {
+fn is_never_extended<H: Journals>(host: &mut H, rt: &HostRuntime, path: &str) -> io::Result<bool> {
     fs::write(rt, path, "one\ntw")?;
-    let mut opening = Opening::new(SystemHost::new(rt, rt).open_journal(path)?)?;
+    let mut opening = Opening::new(host.open_journal(path)?)?;
     fs::write(rt, path, "")?;
     let mut buffer = [0; 8];
     let ended = Some(ErrorKind::UnexpectedEof);
@@ -31,6 +31,7 @@ fn is_never_extended(rt: &HostRuntime, path: &str) -> io::Result<bool> {
 
 #[test]
 fn extends_no_file_on_disk(rt: HostRuntime) -> Result<(), Fail> {
-    assert!(rt; is_never_extended(&rt, "mg_journal.txt")?);
+    let mut host = SystemHost::new(&rt, &rt);
+    assert!(rt; is_never_extended(&mut host, &rt, "mg_journal.txt")?);
     Ok(())
 }

@@ -1,29 +1,29 @@
 -- Properties that the functions that start a gateway pass on to each other.
-use Rattle.std.specs.Prelude.{◌≡◌, ◌≢◌, ◌++◌, ℕ, false, true, List, [], codes, Option, Some, None, Result, Ok, Err, IfSome, Bool, ◌||◌, nat_eq}
+use Rattle.std.specs.Prelude.{◌≡◌, ◌≢◌, ◌++◌, ℕ, false, List, [], codes, Option, Some, None, Result, Ok, Err, IfSome, Bool, ◌||◌, nat_eq}
 use Rattle.std.specs.List.{starts_with}
-use Rattle.std.specs.Io.KnownBytes.{append_known}
+use Rattle.std.specs.Io.KnownBytes.{Consumes, append_known}
 use Rattle.mg_dates.specs.declared.timeline.Timeline.{Timeline}
 use Rattle.mg_dates.specs.Times.{missed_since}
 use Rattle.mg_host.specs.HostCalls.{Grows}
 use Rattle.mg_engine.specs.declared.config.Config.{Config}
 use Rattle.mg_core.specs.declared.state.CoreState.{CoreState}
-use Rattle.mg_core.specs.Note.{Note, notes_of}
+use Rattle.mg_checkpoint.specs.Checkpoint.{checkpoint_text, without_speech}
+use Rattle.mg_core.specs.Base.{IsBase}
 use Rattle.mg_core.specs.World.{World, world_after_ticks}
 use Rattle.mg_core.specs.aids.Stands.{StandsFor}
-use Rattle.mg_fence.specs.Reached.{Reaches}
 use Rattle.mg_journal.specs.Journal.{JournalState}
-use Rattle.mg_core.specs.Counted.{journal_lines}
 use Rattle.mg_host.specs.declared.host_call.HostCall.{HostCall}
+use Rattle.mg_arguments.specs.Script.{HasScript}
 use Rattle.mg_arguments.specs.Title.{title_line}
 use Rattle.mg_start.specs.Journal.{RunsNoSession, Writes, start_lines, timeline_after}
 use Rattle.mg_start.specs.Start.{HasStarted, ResumesIn}
 
--- A journal has a timeline if and only if it has lines, and the timeline is that of its dates. If the text is not
--- known, nothing is stated.
-abbrev pub KeepsTimes : Option Timeline → (found : Option (List ℕ)) → Type 0
-KeepsTimes None found = IfSome found (λ text. text ≡ [])
-KeepsTimes (Some timeline) found =
-    IfSome found (λ text. (text ≢ []) × (timeline ≡ timeline_after text))
+-- A journal has a timeline if and only if it has lines, and the timeline is that of the dates in its script. What is not
+-- known is not stated.
+abbrev pub KeepsTimes : Option Timeline → (found script : Option (List ℕ)) → Type 0
+KeepsTimes None found script = IfSome found (λ text. text ≡ []) × IfSome script (λ text. text ≡ [])
+KeepsTimes (Some timeline) found script =
+    IfSome found (λ text. text ≢ []) × IfSome script (λ text. timeline ≡ timeline_after text)
 
 -- The number of ticks that a timeline has missed at this date, or 0 without a timeline or a date.
 abbrev pub missed_by : Option Timeline → (millis : Option ℕ) → ℕ
@@ -65,17 +65,27 @@ pub record HasBegun (title : List ℕ) (ticks : ℕ) (fence : Option ℕ) (found
   pub text : journal.text ≡ append_known (append_known found title) (start_lines ticks fence)
 
 -- A core represents a world in which the gateway is resumed, and `reached` is the number that its messages have
--- reached.
-pub record CanResume (text : Option (List ℕ)) (config : Config) (state : CoreState) (reached : ℕ)
-    : Type 0 where
+-- reached. The journal has this timeline.
+pub record CanResume (text : Option (List ℕ)) (timeline : Option Timeline) (config : Config)
+    (state : CoreState) (reached : ℕ) : Type 0 where
+  pub base : World
+  pub script : Option (List ℕ)
+  pub has_script : HasScript text config base script
+  pub times : KeepsTimes timeline text script
   pub world : World
   pub stands : StandsFor state world
-  pub resumes : ResumesIn text config world reached
+  pub resumes : ResumesIn script base world reached
 
--- The text of a journal has reached this number.
-abbrev pub HasReached : (text : Option (List ℕ)) → (reached : ℕ) → Type 0
-HasReached text reached = IfSome text (λ lines.
-    (notes : List Note) × (notes_of (journal_lines true lines) ≡ Some notes) × Reaches 0 notes reached)
+-- A gateway with this configuration was restored: its title and a checkpoint were read. Its state represents the base
+-- with this checkpoint, in which no RTP datagram has arrived.
+pub record IsRestored (config : Config) (old new : Option (List ℕ)) (state : CoreState)
+    : Type 0 where
+  pub base : World
+  pub is_base : IsBase base
+  pub config_is : base.gateway.config ≡ config
+  pub quiet : without_speech base ≡ base
+  pub read : Consumes old new (title_line config ++ checkpoint_text base)
+  pub stands : StandsFor state base
 
 -- A core represents the world in which a gateway starts, and `reached` is the number that the journal has reached.
 pub record CanStart (journal text : Option (List ℕ)) (fence : Option ℕ) (config : Config)

@@ -7,7 +7,7 @@ use Rattle.mg_arguments.proofs.heard_options.with_question.Goals as goal
 pub returns-clause-app : goal.returns-clause-app
 unfolding heard_options
 returns-clause-app c =
-    let script = adds_rule _ _ _ _ _ c.in_ok-arg.ensures refl c.script_argument.ensures.rule refl in
+    let script = adds_rule _ _ _ _ _ c.in_ok-arg.ensures refl c.files_argument.ensures.rule refl in
     let listener = adds_rule _ _ _ _ _ c.in_ok-arg-2.ensures script
     (ap rule_of c.help.ensures ∙ c.option.ensures.rule) refl in
     let talker = adds_rule _ _ _ _ _ c.in_ok-arg-3.ensures listener

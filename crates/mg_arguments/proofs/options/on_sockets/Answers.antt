@@ -18,8 +18,10 @@ returns-clause-app c =
     (ap rule_of c.help-6.ensures ∙ c.file_option.ensures.rule) refl in
     let sync_rule = adds_rule _ _ _ _ _ c.in_ok-arg-7.ensures journal (ap rule_of c.help-7.ensures ∙ c.flag-3.ensures.rule)
     refl in
-    let fence = adds_rule _ _ _ _ _ c.in_ok-arg-8.ensures sync_rule (ap rule_of c.help-8.ensures ∙ c.flag-4.ensures.rule)
+    let checkpoint = adds_rule _ _ _ _ _ c.in_ok-arg-8.ensures sync_rule
+    (ap rule_of c.help-8.ensures ∙ c.long_number.ensures.rule) refl in
+    let fence = adds_rule _ _ _ _ _ c.in_ok-arg-9.ensures checkpoint (ap rule_of c.help-9.ensures ∙ c.flag-4.ensures.rule)
     refl in
-    let strict = adds_rule _ _ _ _ _ c.in_ok-arg-9.ensures fence (ap rule_of c.help-9.ensures ∙ c.flag-5.ensures.rule)
+    let strict = adds_rule _ _ _ _ _ c.in_ok-arg-10.ensures fence (ap rule_of c.help-10.ensures ∙ c.flag-5.ensures.rule)
     refl in
-    adds_rule _ _ _ _ _ c.in_ok-command.ensures strict (ap rule_of c.help-10.ensures ∙ c.long_number.ensures.rule) refl
+    adds_rule _ _ _ _ _ c.in_ok-command.ensures strict (ap rule_of c.help-11.ensures ∙ c.long_number-2.ensures.rule) refl

@@ -1,8 +1,10 @@
-use Rattle.std.proofs.Common.{◌∙◌, map, sym, true≢false}
+use Rattle.std.proofs.Common.{◌∙◌, map, subst, sym, true≢false}
 use Rattle.clap.specs.Words.{found_of, kind_of, rows_of}
 use Rattle.mg_options.specs.Requested.{IsRefused}
 use Rattle.mg_options.proofs.RequestedLemmas.{asks_none, passed_on}
-use Rattle.mg_arguments.specs.Options.{requested, command_line}
+use Rattle.mg_arguments.specs.declared.option_fault.OptionFault.{OptionFault}
+use Rattle.mg_arguments.specs.Options.{requested, command_line, run_in}
+use Rattle.mg_arguments.specs.aids.Options.{Refuses}
 use Rattle.mg_arguments.proofs.InvocationLemmas.{asks_run, is_simple_line, meets_subcommand, memory_passed_on, refuses}
 use Rattle.mg_arguments.proofs.options.requested_run.Goals as goal
 
@@ -30,16 +32,18 @@ returns-in-Ok-clause-run g c =
     (rows_of (found_of c.in-Some.options.now)) c.in_ok-matches.ensures.kinds c.in_ok-matches.ensures.ok.2
     c.in-Some.ensures.name c.in-Some.ensures.rows ∙ c.in-Ok.ensures.run
 
-pub returns-in_err-error-in-Err-clause-refused : goal.returns-in_err-error-in-Err-clause-refused
-returns-in_err-error-in-Err-clause-refused g c =
-    memory_passed_on c.from_residual-in_err-error-in-Err.result (requested (map g.S.AsStr.text c.args.words.now))
-    c.from_residual-in_err-error-in-Err.ensures.1
+pub returns-in_err-error-in-Err-Invalid-clause-refused : goal.returns-in_err-error-in-Err-Invalid-clause-refused
+returns-in_err-error-in-Err-Invalid-clause-refused g c =
+    memory_passed_on c.from_residual-in_err-error-in-Err-Invalid.result (requested (map g.S.AsStr.text c.args.words.now))
+    c.from_residual-in_err-error-in-Err-Invalid.ensures.1
 
-pub returns-clause-refused : goal.returns-clause-refused
-returns-clause-refused g c =
+pub returns-in-Err-Invalid-clause-refused : goal.returns-in-Err-Invalid-clause-refused
+returns-in-Err-Invalid-clause-refused g c =
     let words = map g.S.AsStr.text c.args.words.now in
     let name = c.in-Some.name.now in
     let rows = rows_of (found_of c.in-Some.options.now) in
+    let refused = subst (λ (fault : OptionFault). Refuses fault (run_in name rows)) c.in-Err-Invalid.field-0-is
+    c.in-Err-Invalid.ensures.refused in
     refuses _ name rows _ (asks_run _ words c.in_ok-command.ensures.app c.in_ok-matches.matches name rows
     c.in_ok-matches.ensures.kinds c.in_ok-matches.ensures.ok.2 c.in-Some.ensures.name c.in-Some.ensures.rows)
-    c.in-Err.ensures.refused c.in_ok-error-in-Err.ensures.kind
+    refused c.in_ok-error-in-Err-Invalid.ensures.kind

@@ -8,4 +8,4 @@ pub returns-clause-app : goal.returns-clause-app
 returns-clause-app c =
     let start : app_of c.about.result ≡ new_app (codes "verify") = ap app_of_fields c.about.ensures ∙
     c.new.ensures.app in
-    adds_rule _ _ _ _ _ c.in_ok-command.ensures start c.script_argument.ensures.rule refl
+    adds_rule _ _ _ _ _ c.in_ok-command.ensures start c.files_argument.ensures.rule refl

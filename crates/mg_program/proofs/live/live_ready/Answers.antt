@@ -9,7 +9,7 @@ use Rattle.mg_program.proofs.live.live_ready.Goals as goal
 pub returns-in-Err-clause-value : goal.returns-in-Err-clause-value
 returns-in-Err-clause-value g c = λ text found bound can binds. inr (
   fails_anyhow c.args.ready.gateway.config c.watch_fault-status.result c.watch_fault-status.ensures.ends,
-  not_started c.args.ready.gateway.service.now.journal text c.args.ready.gateway.service.now.bind_addresses c.args.ready.gateway.config can.started.missed
+  not_started c.args.ready.gateway.service.now.journal text can.started.script c.args.ready.gateway.service.now.bind_addresses c.args.ready.gateway.config can.started.missed
       c.args.ready.gateway.service.now.fence_from found bound (g.E.Host.Tells.calls c.args.outside.host) (g.E.Host.Tells.calls c.watch.new.self) binds
       can.started.begins c.watch.ensures.same,
   refl,
@@ -18,7 +18,7 @@ returns-in-Err-clause-value g c = λ text found bound can binds. inr (
 pub returns-in-Err-monitor-clause-value : goal.returns-in-Err-monitor-clause-value
 returns-in-Err-monitor-clause-value g c = λ text found bound can binds. inr (
   tt,
-  not_started c.args.ready.gateway.service.now.journal text c.args.ready.gateway.service.now.bind_addresses c.args.ready.gateway.config can.started.missed
+  not_started c.args.ready.gateway.service.now.journal text can.started.script c.args.ready.gateway.service.now.bind_addresses c.args.ready.gateway.config can.started.missed
       c.args.ready.gateway.service.now.fence_from found bound (g.E.Host.Tells.calls c.args.outside.host) (g.E.Host.Tells.calls c.watch.new.self) binds
       can.started.begins c.watch.ensures.same,
   refl,

@@ -3,5 +3,5 @@ use Rattle.mg_start.proofs.history.find.Given as goal
 abbrev pub ghosts-check_seals : goal.ghosts-check_seals
 ghosts-check_seals g a = record { file = a.opening.file }
 
-abbrev pub ghosts-run_events : goal.ghosts-run_events
-ghosts-run_events g a = record { file = a.opening.file }
+abbrev pub ghosts-run : goal.ghosts-run
+ghosts-run g a = record { file = a.opening.file }

@@ -193,7 +193,7 @@ END
         [ "$found" = "$wanted" ] || fail "'$*' is completed by '$found', not by '$wanted'"
     }
     completes live mg_bridge l
-    completes '--control-address --control-port --controller' mg_bridge live --c
+    completes '--control-address --control-port --controller --checkpoint-every' mg_bridge live --c
     completes --flows mg_bridge replay --fl
     completes '' mg_bridge serve --slots ''
     completes 'seal serve' mg_bridge help s

@@ -55,7 +55,7 @@ put_compressed() {
 
 put 755 usr/bin/ "$top/dist/mg_bridge" "$top/dist/mg_pace"
 put 755 usr/lib/lobbysorrel/ "$here/check-config" "$here/cut-journal" "$here/drain" "$here/firewall" "$here/keeper" \
-    "$here/new-journal" "$here/run" "$here/started"
+    "$here/new-journal" "$here/receive-journal" "$here/run" "$here/started"
 put 644 usr/lib/systemd/system/ "$here/lobbysorrel@.service" "$here/lobbysorrel-keeper@.service" \
     "$here/lobbysorrel-firewall.service"
 for program in mg_bridge mg_pace; do

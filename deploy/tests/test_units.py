@@ -1,4 +1,4 @@
-"""The programs of the units: run, started, keeper, firewall, check-config and cut-journal. A fake systemctl or nft replaces the real one."""
+"""The programs of the units: run, started, keeper, firewall, check-config, and those for journals. A fake systemctl, nft or mg_bridge replaces the real one."""
 import fcntl
 import os
 import re
@@ -219,7 +219,7 @@ class CheckConfig(Scripts):
         return status, said
 
     def test_a_gateway_that_would_start(self):
-        """This host doesn't have its addresses, and another program has its port."""
+        """This host doesn't have the gateway's addresses, and another program has its port."""
         options = [*self.OPTIONS, *self.free_ports()]
         self.assertEqual(self.checked(*options), (0, ""))
         begin = [DIST / "mg_bridge", "serve", *options, "--bind-address=127.0.0.1", "--journal", self.journal]
@@ -289,6 +289,50 @@ class CutJournal(Scripts):
                 self.assertEqual((status, self.journal.read_text(), self.whole()), (1, text, {}))
                 self.assertTrue(said.startswith("cut-journal: ") and said.endswith(f"{reason}\n"), said)
         self.assertEqual(self.said("cut-journal")[1], 2)
+
+
+class Copy(Scripts):
+    """A journal that is copied to a standby host, through a renewal."""
+
+    def setUp(self):
+        super().setUp()
+        self.copy = self.folder / "journal.txt"
+        path = f"{self.path}:{os.environ['PATH']}"
+        self.process = subprocess.Popen([DEPLOY / "receive-journal", self.copy], env={"PATH": path}, text=True,
+                                        stdin=subprocess.PIPE, stdout=subprocess.PIPE, stderr=subprocess.STDOUT)
+        self.addCleanup(self.process.stdout.close)
+        self.addCleanup(self.process.wait)
+        self.addCleanup(self.process.kill)
+
+    def give(self, text):
+        self.process.stdin.write(text)
+        self.process.stdin.flush()
+
+    def has(self, text):
+        self.soon(lambda: self.copy.exists() and self.copy.read_text() == text)
+
+    def test_the_copy_is_always_a_whole_journal(self):
+        first = "# mg_bridge replay --slots=2\nticks 10\n"
+        self.give(first)
+        self.has(first)
+        self.give("ticks 20\n")
+        self.has(first + "ticks 20\n")
+        checkpoint = "# mg_bridge replay --slots=2\ncheckpoint after 0 control datagrams and 30 ticks\nend after 2 lines\n"
+        self.give(checkpoint)
+        self.soon(lambda: Path(f"{self.copy}.new").exists() and Path(f"{self.copy}.new").read_text() == checkpoint)
+        self.has(first + "ticks 20\n")
+        joint = f"# follows {'0' * 64}\n"
+        self.give(joint + "ticks 10\n")
+        self.has(checkpoint + joint + "ticks 10\n")
+        self.process.stdin.close()
+        self.assertEqual(self.process.wait(20), 0)
+        self.assertEqual([file.name for file in self.folder.glob("journal*")], ["journal.txt"])
+
+    def test_what_is_no_journal(self):
+        self.give("ticks 10\n")
+        self.process.stdin.close()
+        self.assertEqual(self.process.wait(20), 1)
+        self.assertFalse(self.copy.exists())
 
 
 class Keeper(Scripts):

@@ -15,14 +15,15 @@ class Request:
 
 
 class Controller:
-    """Ends the trial if a request isn't answered, is answered by an error, or has another answer when it is repeated."""
+    """Ends the trial if a request isn't answered, is answered with an error, or gets a different answer when it is
+    repeated."""
 
     def __init__(self, to, address="127.0.0.1"):
         self.socket, self.to, self.address = udp(address=address), to, address
         # The requests that wait for an answer, and the last one that was answered.
         self.due, self.last = [], None
         self.asked, self.answered, self.repeats, self.kept = 0, 0, 0, 0
-        # The longest that an answer took, in seconds.
+        # The longest time that an answer took, in seconds.
         self.longest = 0.0
 
     def send(self, request):

@@ -46,7 +46,7 @@ def audit_after(lines, source):
 
 
 def journal_of(folder, socket, control, base):
-    """Makes a journal without dates, checksums and notes of missed ticks."""
+    """Makes a journal without dates, seals, and comments about missed ticks."""
     path = os.path.join(folder, "journal.txt")
     options = ["--control-port", str(control), "--base-port", str(base), "--slots", "8"]
     messages = [f"MEGACO/1 [127.0.0.1]:2945 Transaction={n + 1}{{{edit}}}" for n, edit in enumerate(EDITS)]

@@ -124,7 +124,7 @@ def full_disk(folder, control, base):
             message, answer = fill_and_free(journal, disk, gateway, udp())
             members = gateway.members()
             check(members == [f"RTP/{number + 1}" for number in range(len(members))] and len(members) > 1, members)
-            # First, the gateway prints its addresses.
+            # Without what the gateway prints at its start, up to the line about its fence.
             said = re.sub("(?s).*\nfence: none\n", "", gateway.end())
             # On a busy machine, packets may be late.
             errors = re.sub("\\d+ packets were too late\n", "", said)

@@ -3,14 +3,16 @@
 usage: refused.py BRIDGE LIBRARY
 
 LIBRARY is built from trials/refusals/refuse.c. In a session, a controller sends five requests, with ticks after each.
-In some sessions, each cut of the file after the refused write fails, too. Then the journal is broken, as it is after a
+In some sessions, each cut of a file after the refused write fails, too. Then the journal is broken, as it is after a
 refused sync.
 
 An answer needs a whole line in the file. If the journal isn't broken, it consists of whole lines, and a repeated
-request is answered. If it is broken, requests get no answer, packets continue, and the gateway reports it. A gateway
-that resumes from the file knows what was answered, and answers all requests with the same bytes as a gateway whose
-calls don't fail. Exits with 1 at the first session that goes wrong.
+request is answered. If it is broken, requests get no answer, packets continue, and the gateway reports it. Within a
+second, it renews the journal, unless the cut of the new file is refused, too. Then a repeated request is answered. A
+gateway that resumes from the file knows what was answered, and answers all requests with the same bytes as a gateway
+whose calls don't fail. Exits with 1 at the first session that goes wrong.
 """
+import glob
 import os
 import sys
 import tempfile
@@ -20,10 +22,13 @@ from serving import Serving, waiting
 
 BRIDGE, LIBRARY = sys.argv[1:]
 SLOTS, TICKS, PIECE = 4, 60, 64
+# The number of ticks within which a broken journal is renewed.
+LOOK = 50
 ADD = ("Add=${Media{LocalControl{Mode=SendReceive},Local{v=0\nc=IN IP4 $\nm=audio $ RTP/AVP 0\n},"
        "Remote{v=0\nc=IN IP4 127.0.0.1\nm=audio %d RTP/AVP 0\n}}}")
 AUDIT = "Context=1{ContextAudit{Topology},AuditValue=*{Audit{Media}}}"
 FULL, WORKS = "the journal can't be written: messages get no answer\n", "the journal can be written again\n"
+UNRENEWED = "the journal can't be renewed: the next try is in a minute\n"
 
 
 class Wrong(Exception):
@@ -90,10 +95,10 @@ class Session:
     def __init__(self, trial, kind, then, options, at):
         self.trial, self.options = trial, options
         self.journal, self.mark = trial.path("journal.txt"), trial.path("told")
-        self.breaks, self.knows_more = kind == "sync" or bool(then), kind == "sync"
-        for path in (self.journal, self.mark):
-            if os.path.exists(path):
-                os.remove(path)
+        # Whether the journal stays broken, or is renewed.
+        self.breaks, self.renews = bool(then), kind == "sync"
+        for path in (*glob.glob(self.journal + "*"), *glob.glob(self.mark)):
+            os.remove(path)
         self.environment = dict(os.environ, LD_PRELOAD=LIBRARY, REFUSE=kind, REFUSE_AT=str(at), REFUSE_THEN=then,
                                 REFUSE_PIECE=str(PIECE), REFUSE_TOLD=self.mark)
 
@@ -109,9 +114,9 @@ class Session:
                 if self.is_refused():
                     # Enough ticks for another append.
                     gateway.run("tick\n" * 10)
-                wanted = "" if not self.is_refused() else FULL if self.breaks else FULL + WORKS
-                ended = gateway.end()
-                expect(ended == (0, wanted), f"status and errors are {ended}")
+                wanted = [""] if not self.is_refused() else [FULL, FULL + UNRENEWED] if self.breaks else [FULL + WORKS]
+                status, errors = gateway.end()
+                expect(status == 0 and errors in wanted, f"status {status} and errors {errors}")
             else:
                 status, errors = gateway.end()
                 expect(self.is_refused() and status == 3 and errors.startswith(f"journal {self.journal}: "), errors)
@@ -125,6 +130,7 @@ class Session:
             answer = self.trial.ask(gateway, text)
             if answer is None and not self.breaks:
                 missed += 1
+                gateway.run("tick\n" * (LOOK if self.renews else 1))
                 answer = self.trial.ask(gateway, text)
             is_broken = self.breaks and self.is_refused()
             expect(answer == (None if is_broken else wanted), f"{text} is answered by {answer}")
@@ -136,14 +142,17 @@ class Session:
         return answered
 
     def check_file(self, answered):
-        """Checks that the file has each answered message once, in whole lines."""
-        with open(self.journal) as file:
-            text = file.read()
-        expect(self.breaks and self.is_refused() or text.endswith("\n"), f"the journal ends within a line: {text[-50:]}")
-        lines = text.split("\n")[:-1]
+        """Checks that the file, and the one before a renewal, have each answered message once, in whole lines. A message
+        that couldn't be synced may be in both files."""
+        lines = []
+        for path in glob.glob(self.journal + "*"):
+            with open(path) as file:
+                text = file.read()
+            expect(self.breaks and self.is_refused() or text.endswith("\n"), f"{path} ends within a line: {text[-50:]}")
+            lines += text.split("\n")[:-1]
         for one in self.trial.messages[:answered]:
             found = lines.count(f"control {self.trial.source} {one.encode().hex()}")
-            expect(found == 1, f"the journal has {found} lines for the answered {one}")
+            expect(found in range(1, 2 + self.renews), f"the journal has {found} lines for the answered {one}")
 
     def go_on(self, answered):
         """Checks a gateway that resumes from the journal."""
@@ -151,7 +160,7 @@ class Session:
         with trial.serving(self.journal) as gateway:
             expect(gateway.is_ready, "the next gateway doesn't start")
             known = trial.audit(gateway)
-            expect(known in trial.audits[answered:answered + 1 + self.knows_more], f"{answered} answered, known: {known}")
+            expect(known == trial.audits[answered], f"{answered} answered, known: {known}")
             answers = [trial.ask(gateway, text) for text in trial.messages]
             expect(answers == trial.answers, f"answered {answers}, not {trial.answers}")
             expect(trial.audit(gateway) == trial.audits[-1], "another audit at the end")

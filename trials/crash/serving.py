@@ -1,4 +1,5 @@
 """`mg_bridge serve` with a journal, for the trials of the journal."""
+import contextlib
 import subprocess
 
 # The maximum number of seconds that a gateway may take to end.
@@ -28,7 +29,16 @@ class Serving:
 
     def __exit__(self, *_):
         self.process.kill()
+        self.close()
         self.process.communicate()
+
+    def close(self, last=b""):
+        """Writes the last line, and closes the gateway's input. A gateway that was killed no longer reads it."""
+        stdin, self.process.stdin = self.process.stdin, None
+        if stdin is not None:
+            with contextlib.suppress(BrokenPipeError):
+                stdin.write(last)
+                stdin.close()
 
     def run(self, lines):
         """Runs lines, and returns whether the gateway has executed them."""
@@ -48,7 +58,8 @@ class Serving:
 
     def end(self):
         """Ends the gateway, and returns its status and its errors."""
-        _, errors = self.process.communicate(b"quit\n", PATIENCE)
+        self.close(b"quit\n")
+        _, errors = self.process.communicate(timeout=PATIENCE)
         return self.process.returncode, errors.decode()
 
 

@@ -1,7 +1,7 @@
 #!/bin/sh
-# Two hosts, as network namespaces. The second follows the journal of the first. The first goes down with its gateway,
-# and the second gets its address and continues. Prints the longest times for which a caller in a conference of eight,
-# all talking, was sent no packet, and no speech.
+# Two hosts, as network namespaces. The second follows the journal of the first, which is renewed meanwhile. The first
+# goes down with its gateway, and the second gets its address and continues. Prints the longest times for which a caller
+# in a conference of eight, all talking, was sent no packet, and no speech.
 # usage: standby.sh [--gateway PATH]
 # It needs root, ip (iproute2), socat, arping (iputils-arping) and python3. It takes fifteen seconds.
 set -eu
@@ -68,15 +68,17 @@ take() {
 
 # gateway HOST: starts the gateway, and waits until it is ready.
 gateway() {
-    on "$1" "$gateway" live --address 10.88.0.100 --journal "$work/$1.txt" > "$work/$1.out" 2> "$work/$1.err" &
+    on "$1" "$gateway" live --address 10.88.0.100 --journal "$work/$1.txt" --checkpoint-every 2 \
+        > "$work/$1.out" 2> "$work/$1.err" &
     until_holds "gateway on host $1" grep -q ready "$work/$1.out"
 }
 
-touch "$work/one.out" "$work/two.out" "$work/calls.out" "$work/two.txt"
+touch "$work/one.out" "$work/two.out" "$work/calls.out"
 take one
 gateway one
 on one socat -U TCP-LISTEN:7000,reuseaddr,fork "SYSTEM:tail -c +1 -F $work/one.txt" 2> /dev/null &
-on two socat -u TCP:10.88.0.1:7000,retry=100,interval=0.1 "CREATE:$work/two.txt" 2> "$work/copy.err" &
+on two socat -u TCP:10.88.0.1:7000,retry=100,interval=0.1 "SYSTEM:$here/../../deploy/receive-journal $work/two.txt" \
+    2> "$work/copy.err" &
 until_holds 'copy of the journal' [ -s "$work/two.txt" ]
 on calls env "PYTHONPATH=$here/.." python3 "$here/calls.py" 10.88.0.100 10.88.0.3 10 > "$work/calls.out" 2>&1 &
 calls=$!
@@ -84,6 +86,7 @@ until_holds conference grep -q ready "$work/calls.out"
 sleep 4
 ip -n standby-one link set eth0 down
 ip netns pids standby-one | xargs -r kill -9
+grep -q '^# follows ' "$work/two.txt" || fail 'the journal was not renewed'
 take two
 gateway two
 wait "$calls" || fail 'the conference'

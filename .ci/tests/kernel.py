@@ -10,7 +10,10 @@ import threading
 from dataclasses import dataclass
 
 # The numbers of system calls on x86-64.
-NUMBERS = {"sendto": 44, "recvfrom": 45, "fsync": 74, "fdatasync": 75, "epoll_wait": 232, "epoll_pwait": 281}
+NUMBERS = {
+    "write": 1, "stat": 4, "sendto": 44, "recvfrom": 45, "fsync": 74, "fdatasync": 75, "rename": 82, "link": 86,
+    "epoll_wait": 232, "newfstatat": 262, "epoll_pwait": 281, "statx": 332,
+}
 NO_NEW_PRIVILEGES, SECCOMP, FILTER, WITH_LISTENER = 38, 317, 1, 8
 ALLOW, ASK = 0x7FFF0000, 0x7FC00000
 RECEIVE, ANSWER, GO_ON = 0xC0502100, 0xC0182101, 1
@@ -19,11 +22,17 @@ LIBC = ctypes.CDLL(None, use_errno=True)
 
 @dataclass
 class Call:
-    """A system call: its name, how many of this name have been made, this one included, and its arguments."""
+    """A system call: the process that made it, its name, how many of this name have been made, this one included, and its
+    arguments."""
 
+    process: int
     name: str
     count: int
     arguments: tuple
+
+    def file(self):
+        """The path of the file whose descriptor is the first argument."""
+        return os.readlink(f"/proc/{self.process}/fd/{self.arguments[0]}")
 
 
 def program_of(numbers):
@@ -37,8 +46,8 @@ def program_of(numbers):
 class Kernel:
     """What a program gets in place of the system, until the end of the `with` block.
 
-    `decide` is called with each `Call` that has one of the names. It returns the number of the error that the call fails
-    with, or `None` if the system is to do it. Meanwhile, the program waits."""
+    `decide` is called with each `Call` that has one of the names. It returns the number of the error with which the
+    call fails, or `None` if the system is to do it. Meanwhile, the program waits."""
 
     def __init__(self, names, decide=lambda call: None):
         self.names = {NUMBERS[name]: name for name in names}
@@ -61,10 +70,10 @@ class Kernel:
         """Waits for a call, and says what becomes of it."""
         asked = bytearray(80)
         fcntl.ioctl(listener, RECEIVE, asked)
-        identity, number = struct.unpack_from("Q8xi", asked)
+        identity, process, number = struct.unpack_from("QI4xi", asked)
         name = self.names[number]
         self.made[name] += 1
-        error = self.decide(Call(name, self.made[name], struct.unpack_from("6Q", asked, 32)))
+        error = self.decide(Call(process, name, self.made[name], struct.unpack_from("6Q", asked, 32)))
         fcntl.ioctl(listener, ANSWER, struct.pack("QqiI", identity, 0, -(error or 0), 0 if error else GO_ON))
 
     def listen(self):

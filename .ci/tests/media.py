@@ -10,7 +10,7 @@ def description(address, port):
 
 
 def add(port, mode="SendReceive", address="127.0.0.1"):
-    """Adds a termination whose caller has this address and port."""
+    """An Add of a termination whose caller has this address and port."""
     local, remote = description("$", "$"), description(address, port)
     return f"Add=${{Media{{LocalControl{{Mode={mode}}},Local{{{local}}},Remote{{{remote}}}}}}}"
 

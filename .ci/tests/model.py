@@ -1,4 +1,5 @@
-"""A model of a gateway, after docs/PROFILE.md and the definitions: who hears whom, and what each listener is sent."""
+"""A model of a gateway, according to docs/PROFILE.md and the definitions: who hears whom, and what each listener is
+sent."""
 from bisect import bisect_right
 from collections import defaultdict
 

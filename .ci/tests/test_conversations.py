@@ -96,7 +96,7 @@ class Controllers(Commands):
                         if name == "serve":
                             count = 2 + wanted
                             self.assertEqual(gateway.received(count, 0), counted(control=count, sent=count))
-                        # The messages are read in order, so the strangers' come before the controller's last one.
+                        # The messages are read in order, so the stranger's come before the controller's last one.
                         answers = [it.recv(2000) for it in (controller, controller, *[stranger] * wanted)]
                         self.assertEqual(answers, [answers[0]] * (2 + wanted))
                         self.assertEqual(waiting(stranger), [])

@@ -52,9 +52,6 @@ class Failures(Commands):
                 self.assertIsNone(self.ask(caller, 3, 0.5))
                 line = gateway.process.stderr.readline()
                 self.assertEqual(line, "the journal can't be written: messages get no answer\n")
-                failing.clear()
-                # What the disk has isn't known, so only a restart helps.
-                self.assertIsNone(self.ask(caller, 3, 0.5))
         with udp() as caller, Gateway("live", *words):
             self.assertEqual(self.ask(caller, 3), "Reply=3{Context=3{Add=RTP/3}}")
 

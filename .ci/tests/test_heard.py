@@ -156,7 +156,7 @@ class Heard(Commands):
         said = "".join(f"standard input: {name} was never there\n" for name in ("RTP/9", "192.0.2.8", "RTP/10", "RTP/9"))
         apart = self.TITLE + date(20) + PAIR + topology(2, "Isolate") + "tick\n"
         self.ends(0, "", said, "heard", *words, text=apart)
-        # A broken rule matters more.
+        # A broken rule matters more than terminations that were never there.
         line = self.SECOND.partition(" until ")[0] + "\n"
         self.ends(1, line, "", "heard", *words, text=self.TITLE + self.CALL)
 
@@ -207,7 +207,8 @@ class Heard(Commands):
                     self.assertEqual((status, errors), (6, f"standard input: {message}\n"))
 
     def test_a_clock_that_was_set_back(self):
-        """It shows the time from 14:03:20 until 14:03:22 twice. The first caller hears the second only the first time."""
+        """The clock shows the time from 14:03:20 until 14:03:22 twice. The first caller hears the second only the first
+        time."""
         text = self.TITLE + date(20) + PAIR + "tick\n" * 100 + date(20) + PART + "tick\n" * 200
         gap = "gap from 2026-11-27T14:03:22Z (tick 100) until 2026-11-27T14:03:20Z (tick 100)\n"
         first = ("RTP/1 could hear RTP/2 in context 1 from 2026-11-27T14:03:20Z (tick 0) until 2026-11-27T14:03:20Z"

@@ -11,7 +11,8 @@ EXAMPLES = ROOT / "examples"
 
 
 def run_on(source, *words, feed=None):
-    """Runs the program on this file descriptor, and closes it. Calls `feed` while it runs. Returns its exit status, its output and its errors."""
+    """Runs the program on this file descriptor, and closes it. Calls `feed` while the program runs. Returns its exit
+    status, its output and its errors."""
     command = [program("mg_bridge"), *words]
     with subprocess.Popen(command, stdin=source, stdout=subprocess.PIPE, stderr=subprocess.PIPE, text=True) as process:
         os.close(source)

@@ -230,6 +230,64 @@ class Journals(Commands):
                 message = f"{self.path}: line {line}: bad script line\n"
                 self.ends(6, "", message, "heard", "--at=2026-11-27T14:03:20Z", self.path)
 
+    CHECKPOINT = (
+        "checkpoint after 3 control datagrams and 100 ticks\n",
+        "next RTP/12 context 13\n",
+        "context 12 has RTP/11 in room 0\n",
+        "termination RTP/11 context 12 slot 0 seat 0 mode SendReceive depth 4 local none remote none"
+        " timestamp 15849 sequence 8 sent 0 octets 0 paused\n",
+        "end after 4 lines\n",
+    )
+
+    def test_a_journal_that_was_renewed(self):
+        """A gateway goes on from the checkpoint behind the title, and runs the lines behind the checkpoint."""
+        title = self.TITLE.replace("28807", str(FIRST)).replace("28808", str(FIRST + 2))
+        text = title + "".join(self.CHECKPOINT) + "# counted ticks\n# reached 17\n"
+        Path(self.path).write_text(text + "ticks 5\n")
+        words = ["serve", "--fence", "--controller=127.0.0.1", "--journal", self.path]
+        with udp() as caller, Gateway(*words) as gateway:
+            counts = gateway.stats()
+            self.assertTrue(counts.startswith("control=3 media=0 ticks=105 "), counts)
+            self.assertTrue(counts.endswith(" fence=17 stale=0\n"), counts)
+            # A message with a lower number than the one that was reached is dropped.
+            for number, answer in ((16, []), (17, ["Reply=7{Context=12{AuditValue=RTP/11{"])):
+                message = f"MEGACO/1 <{number}.x>\nTransaction=7{{Context=12{{AuditValue=RTP/11{{Audit{{Media}}}}}}}}"
+                caller.sendto(message.encode(), ("127.0.0.1", FIRST))
+                gateway.stats("poll")
+                found = [it.decode().partition("\n")[2] for it in waiting(caller)]
+                self.assertEqual([it[: len(start)] for it, start in zip(found, answer, strict=True)], answer)
+            status, _, errors = gateway.finish("quit")
+            self.assertEqual(status, 0)
+            self.assertTrue(errors.endswith(": continues after 3 messages and 105 ticks\n"), errors)
+        self.assertTrue(Path(self.path).read_text().startswith(text))
+
+    def test_bad_lines_of_a_checkpoint_are_named(self):
+        script = "# counted ticks\nticks 5\n"
+        lost = [(self.CHECKPOINT[:n] + self.CHECKPOINT[n + 1 :], line) for n, line in ((1, 3), (2, 4), (3, 4), (4, 6))]
+        doubled = [(self.CHECKPOINT[: n + 1] + self.CHECKPOINT[n:], n + 3) for n in range(4)]
+        changed = [
+            ((*self.CHECKPOINT[:n], self.CHECKPOINT[n].replace(old, new), *self.CHECKPOINT[n + 1 :]), line)
+            for n, old, new, line in (
+                (0, "100", "0100", 2),
+                (1, "12", "11", 4),
+                (2, "room 0", "room 64", 4),
+                (3, "slot 0", "slot 2", 4),
+                (4, "4", "5", 6),
+            )
+        ]
+        for lines, line in (*lost, *doubled, *changed):
+            with self.subTest(lines=lines):
+                Path(self.path).write_text(self.TITLE + "".join(lines) + script)
+                status, output, errors = run("serve", "--journal", self.path, text="quit\n")
+                wanted = f": line {line} isn't a line of a checkpoint\n"
+                self.assertEqual((status, output, errors[-len(wanted) :]), (6, "", wanted))
+        for lines in (self.CHECKPOINT[1:], (*self.CHECKPOINT, self.CHECKPOINT[4])):
+            with self.subTest(lines=lines):
+                Path(self.path).write_text(self.TITLE + "".join(lines) + script)
+                status, output, errors = run("serve", "--journal", self.path, text="quit\n")
+                wanted = f": line {2 if len(lines) == 4 else 7} isn't a line of a script\n"
+                self.assertEqual((status, output, errors[-len(wanted) :]), (6, "", wanted))
+
     def test_counted_ticks(self):
         """A line can count many ticks, but only after the line that says so."""
         for text, ticks in (

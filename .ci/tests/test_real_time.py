@@ -98,7 +98,7 @@ class RealTime(Commands):
         self.assertEqual((late, len(arrived)), (failed, sent - 1))
         self.assertEqual(packets, [(number, 160 * number) for number, _ in packets])
         self.assertEqual(arrived, sorted(set(arrived)))
-        # The ticks of the second were run: the last five and the one in progress on time, the others late.
+        # The ticks of the stalled second were run: the last five and the one in progress on time, the others late.
         self.assertTrue(44 <= failed <= 50 * lasted, (failed, lasted))
 
     def test_how_late_packets_may_be_is_an_option(self):

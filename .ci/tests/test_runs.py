@@ -92,7 +92,7 @@ class Runs(Commands):
                 self.assertEqual(check.communicate(timeout=20)[1], f"127.0.0.1:{FIRST} doesn't answer: timed out\n")
 
     def test_check_acknowledges_the_answer(self):
-        """So the gateway doesn't have to keep the reply."""
+        """Then the gateway doesn't have to keep the reply."""
         found = []
 
         def serve(gateway):

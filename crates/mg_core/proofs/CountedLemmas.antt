@@ -1,9 +1,9 @@
 -- Lines that count ticks.
-use Rattle.std.proofs.Common.{◌≡◌, ℕ, zero, suc, ◌<◌, ◌≤◌, Bool, true, false, ◌||◌, List, [], ◌∷◌, ◌++◌, length, codes, replicate, drop, take, Some, None, refl, sym, ap, ◌∙◌, append_assoc, length-drop, arith}
+use Rattle.std.proofs.Common.{◌≡◌, ℕ, zero, suc, ◌+◌, ◌*◌, ◌<◌, ◌≤◌, Bool, true, false, ◌||◌, List, [], ◌∷◌, ◌++◌, length, codes, replicate, drop, take, Some, None, refl, sym, ap, ◌∙◌, append_assoc, length-drop, arith}
 use Rattle.std.specs.Prelude.{◌&&◌, not, if◌then◌else◌}
 use Rattle.std.specs.List.{list_any}
 use Rattle.std.specs.Str.{bytes_eq}
-use Rattle.std.proofs.lemmas.List.{append-nil}
+use Rattle.std.proofs.lemmas.List.{append-nil, replicate-append-replicate}
 use Rattle.std.proofs.lemmas.List.Folds.{list_any-append}
 use Rattle.std.proofs.lemmas.Slice.Eq.{bytes_eq-Decides}
 use Rattle.mg_words.specs.Numbers.{decimal_of}
@@ -59,7 +59,7 @@ marks_same before lines none =
     list_any-append is_mark before lines ∙ ap (λ (b : Bool). list_any is_mark before || b) none
     ∙ or_none (list_any is_mark before)
 
--- ## Lines `tick`
+-- ## `tick` lines
 
 pub ticks_stay : (k : ℕ) (c : Bool) → expanded c (replicate k (codes "tick")) ≡ replicate k (codes "tick")
 unfolding expanded
@@ -72,6 +72,18 @@ ticks_unmarked zero = refl
 ticks_unmarked (suc k) = ticks_unmarked k
 
 -- ## Lines with a count
+
+pub tens_expanded : (k : ℕ) → expanded true (replicate k (codes "ticks 10")) ≡ replicate (10 * k) (codes "tick")
+unfolding expanded
+tens_expanded zero = refl
+tens_expanded (suc k) =
+    ap (λ (l : List (List ℕ)). replicate 10 (codes "tick") ++ l) (tens_expanded k)
+    ∙ replicate-append-replicate 10 (10 * k) (codes "tick")
+    ∙ ap (λ (n : ℕ). replicate n (codes "tick")) (omega arith)
+
+pub tens_unmarked : (k : ℕ) → list_any is_mark (replicate k (codes "ticks 10")) ≡ false
+tens_unmarked zero = refl
+tens_unmarked (suc k) = tens_unmarked k
 
 mark_text : (line : List ℕ) (b : Bool) → is_mark line ≡ b → (n : ℕ) → ticks_in line ≡ Some n → b ≡ false
 mark_text line false is n counted = refl

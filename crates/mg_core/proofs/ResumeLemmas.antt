@@ -1,5 +1,5 @@
 -- Resuming a script: its notes, the bytes of its lines, and how far it was read.
-use Rattle.std.proofs.Common.{◌≡◌, ℕ, zero, suc, ◌+◌, ◌≤◌, Bool, false, ◌||◌, List, [], ◌∷◌, ◌++◌, length, codes, replicate, Option, Some, None, Err, refl, sym, ap, subst, ◌∙◌, append_assoc}
+use Rattle.std.proofs.Common.{◌≡◌, ℕ, zero, suc, ◌+◌, ◌*◌, ◌≤◌, Bool, true, false, ◌||◌, List, [], ◌∷◌, ◌++◌, length, codes, replicate, Option, Some, None, Err, refl, sym, ap, subst, ◌∙◌, append_assoc}
 use Rattle.std.proofs.lemmas.List.{append-nil, replicate-append-replicate}
 use Rattle.std.specs.List.{list_any}
 use Rattle.std.specs.Option.{option_map}
@@ -19,7 +19,7 @@ use Rattle.mg_core.specs.Step.{Sent}
 use Rattle.mg_core.specs.World.{World}
 use Rattle.mg_core.specs.aids.Resuming.{Adds, AreGood, IsBadLine, KeepsLines, KeepsUp, LinesResumed, Resumes, counted_in}
 use Rattle.mg_core.proofs.ReadBackLemmas.{tick_read}
-use Rattle.mg_core.proofs.CountedLemmas.{counted_line, counts_no_mark, expanded_both, expanded_more, expanded_one, long_plain, marks_more, marks_same, plain_line, ticks_stay, ticks_unmarked}
+use Rattle.mg_core.proofs.CountedLemmas.{counted_line, counts_no_mark, expanded_both, expanded_more, expanded_one, long_plain, marks_more, marks_same, plain_line, tens_expanded, tens_unmarked, ticks_stay, ticks_unmarked}
 use Rattle.mg_core.proofs.SplitLemmas.{long_bad}
 
 -- ## The notes of lines
@@ -245,6 +245,14 @@ module _ (base : World) (old new : CoreState) (c d : Bool) (n m : ℕ) (Old New 
   pub ticks_read : (k : ℕ) → d ≡ c → Adds (KeepsUp base old n Old) (KeepsUp base new m New) (ticks_of k) →
       Adds Before After (replicate k (codes "tick"))
   ticks_read k is adds = ticks_come (replicate k (codes "tick")) k (ticks_stay k c) (ticks_unmarked k) is adds
+
+  -- If ticks are counted, and `10 * k` ticks were appended, `k` lines `ticks 10` were read.
+  pub tens_read : (k : ℕ) → c ≡ true → d ≡ c →
+      Adds (KeepsUp base old n Old) (KeepsUp base new m New) (ticks_of (10 * k)) →
+      Adds Before After (replicate k (codes "ticks 10"))
+  tens_read k counts is adds =
+      let lines = replicate k (codes "ticks 10") in
+      ticks_come lines (10 * k) (ap (λ (b : Bool). expanded b lines) counts ∙ tens_expanded k) (tens_unmarked k) is adds
 
 -- Lines that were read are good.
 pub good : (base : World) (state : CoreState) (c : Bool) (n : ℕ) (Follows : List Note → Type 0)

@@ -6,13 +6,13 @@ use Rattle.std.proofs.lemmas.List.Folds.{concat-append}
 use Rattle.std.specs.Cmp.Lexicographic.{pointwise, same_text}
 use Rattle.std.specs.List.{concat}
 use Rattle.std.specs.Prelude.{nat_eq}
-use Rattle.mg_core.specs.declared.resumer.TheConstants.{SIXTEEN_TICKS}
+use Rattle.mg_core.specs.declared.resumer.TheConstants.{EIGHT_TENS, SIXTEEN_TICKS}
 use Rattle.memchr.specs.Find.{IsFirstByte, is_byte}
 use Rattle.std.specs.Prelude.{IfErr, OnOk}
 use Rattle.mg_lines.specs.Lines.{without_return, lines_after}
 use Rattle.mg_core.specs.declared.fault.LineFault.{LineFault}
 use Rattle.mg_core.specs.declared.fault.LineFault.TheVariants as faults
-use Rattle.mg_core.specs.aids.Resuming.{Adds, AreGood, BytesBad, BytesResumed, BytesRun, EndedResumed, IsAfterTicks, IsBadLine, StartsBad, TicksTaken}
+use Rattle.mg_core.specs.aids.Resuming.{Adds, AreGood, BytesBad, BytesResumed, BytesRun, CopiesTaken, EndedResumed, IsAfterCopies, IsBadLine, StartsBad}
 use Rattle.mg_core.proofs.SplitLemmas.{around, line_feed, long_first, unbroken}
 use Rattle.mg_core.proofs.ResumeLemmas.{good, lines_then, no_lines, resumes_err, too_long}
 
@@ -100,22 +100,34 @@ bytes_feed n m partial bytes left rest part next Old Mid New h cut line =
       adds = lines_then Old Mid New h.lines (text ∷ []) h.adds line;
     }
 
-ticks_then : (n m : ℕ) (text rest next : List ℕ) → IsAfterTicks n text rest → IsAfterTicks m rest next →
-    IsAfterTicks (n + m) text next
-ticks_then n m text rest next h more =
-    let line = codes "tick\n" in
+-- ## Copies of a line
+
+copies_then : (line : List ℕ) (n m : ℕ) (text rest next : List ℕ) → IsAfterCopies line n text rest →
+    IsAfterCopies line m rest next → IsAfterCopies line (n + m) text next
+copies_then copy n m text rest next h more =
+    let line = copy ++ 10 ∷ [] in
     h ∙ ap (λ (l : List ℕ). concat (replicate n line) ++ l) more
     ∙ sym (append_assoc (concat (replicate n line)) (concat (replicate m line)) next)
     ∙ ap (λ (l : List ℕ). l ++ next) (sym (concat-append (replicate n line) (replicate m line))
     ∙ ap concat (replicate-append-replicate n m line))
 
 -- Sixteen `tick` lines are counted at once.
-pub sixteen_more : (n : ℕ) (text rest next : List ℕ) → IsAfterTicks n text rest →
-    pointwise nat_eq (take 80 rest) SIXTEEN_TICKS.now ≡ true → next ≡ drop 80 rest → IsAfterTicks (n + 16) text next
+pub sixteen_more : (n : ℕ) (text rest next : List ℕ) → IsAfterCopies (codes "tick") n text rest →
+    pointwise nat_eq (take 80 rest) SIXTEEN_TICKS.now ≡ true → next ≡ drop 80 rest →
+    IsAfterCopies (codes "tick") (n + 16) text next
 sixteen_more n text rest next h same after =
-    ticks_then n 16 text rest next h (sym (take-append-drop 80 rest)
+    copies_then (codes "tick") n 16 text rest next h (sym (take-append-drop 80 rest)
     ∙ ap (λ (l : List ℕ). l ++ drop 80 rest) (same_text (take 80 rest) SIXTEEN_TICKS.now (sym same))
     ∙ ap (λ (l : List ℕ). SIXTEEN_TICKS.now ++ l) (sym after))
+
+-- Eight `ticks 10` lines are counted at once.
+pub eight_more : (n : ℕ) (text rest next : List ℕ) → IsAfterCopies (codes "ticks 10") n text rest →
+    pointwise nat_eq (take 72 rest) EIGHT_TENS.now ≡ true → next ≡ drop 72 rest →
+    IsAfterCopies (codes "ticks 10") (n + 8) text next
+eight_more n text rest next h same after =
+    copies_then (codes "ticks 10") n 8 text rest next h (sym (take-append-drop 72 rest)
+    ∙ ap (λ (l : List ℕ). l ++ drop 72 rest) (same_text (take 72 rest) EIGHT_TENS.now (sym same))
+    ∙ ap (λ (l : List ℕ). EIGHT_TENS.now ++ l) (sym after))
 
 lines_of_ticks : (k : ℕ) (ended : Bool) (more : List ℕ) →
     lines_after ended [] (concat (replicate k (codes "tick\n")) ++ more) ≡
@@ -124,22 +136,42 @@ unfolding lines_after
 lines_of_ticks zero ended more = refl
 lines_of_ticks (suc k) ended more = ap (λ (l : List (List ℕ)). codes "tick" ∷ l) (lines_of_ticks k ended more)
 
-pub bytes_ticks : (n m p : ℕ) (partial bytes rest next : List ℕ) (Old Mid New : List (List ℕ) → Type 0) →
-    BytesRun n m partial bytes [] rest Old Mid → TicksTaken m p rest next Mid New →
+lines_of_tens : (k : ℕ) (ended : Bool) (more : List ℕ) →
+    lines_after ended [] (concat (replicate k (codes "ticks 10\n")) ++ more) ≡
+    replicate k (codes "ticks 10") ++ lines_after ended [] more
+unfolding lines_after
+lines_of_tens zero ended more = refl
+lines_of_tens (suc k) ended more = ap (λ (l : List (List ℕ)). codes "ticks 10" ∷ l) (lines_of_tens k ended more)
+
+-- The copies of a line are read after the bytes so far, if text is split into lines after these copies.
+bytes_copies : (line : List ℕ) → ((k : ℕ) (ended : Bool) (more : List ℕ) →
+    lines_after ended [] (concat (replicate k (line ++ 10 ∷ [])) ++ more) ≡ replicate k line ++ lines_after ended [] more) →
+    (n m p : ℕ) (partial bytes rest next : List ℕ) (Old Mid New : List (List ℕ) → Type 0) →
+    BytesRun n m partial bytes [] rest Old Mid → CopiesTaken line m p rest next Mid New →
     BytesRun n p partial bytes [] next Old New
-bytes_ticks n m p partial bytes rest next Old Mid New h taken =
-    let k = taken.ticks in
-    let ticks = replicate k (codes "tick") in
+bytes_copies line lines_of n m p partial bytes rest next Old Mid New h taken =
+    let k = taken.copies in
+    let copies = replicate k line in
     record {
-      lines = h.lines ++ ticks;
+      lines = h.lines ++ copies;
       split = λ ended more. h.split ended more ∙
           ap (λ (l : List (List ℕ)). h.lines ++ l) (ap (λ (l : List ℕ). lines_after ended [] (l ++ more)) taken.parts
-          ∙ ap (lines_after ended []) (append_assoc (concat (replicate k (codes "tick\n"))) next more)
-          ∙ lines_of_ticks k ended (next ++ more)) ∙
-          sym (append_assoc h.lines ticks (lines_after ended [] (next ++ more)));
-      number = omega (arith, taken.number, h.number, length-append h.lines ticks, length-replicate k (codes "tick"));
-      adds = lines_then Old Mid New h.lines ticks h.adds taken.adds;
+          ∙ ap (lines_after ended []) (append_assoc (concat (replicate k (line ++ 10 ∷ []))) next more)
+          ∙ lines_of k ended (next ++ more)) ∙
+          sym (append_assoc h.lines copies (lines_after ended [] (next ++ more)));
+      number = omega (arith, taken.number, h.number, length-append h.lines copies, length-replicate k line);
+      adds = lines_then Old Mid New h.lines copies h.adds taken.adds;
     }
+
+pub bytes_ticks : (n m p : ℕ) (partial bytes rest next : List ℕ) (Old Mid New : List (List ℕ) → Type 0) →
+    BytesRun n m partial bytes [] rest Old Mid → CopiesTaken (codes "tick") m p rest next Mid New →
+    BytesRun n p partial bytes [] next Old New
+bytes_ticks = bytes_copies (codes "tick") lines_of_ticks
+
+pub bytes_tens : (n m p : ℕ) (partial bytes rest next : List ℕ) (Old Mid New : List (List ℕ) → Type 0) →
+    BytesRun n m partial bytes [] rest Old Mid → CopiesTaken (codes "ticks 10") m p rest next Mid New →
+    BytesRun n p partial bytes [] next Old New
+bytes_tens = bytes_copies (codes "ticks 10") lines_of_tens
 
 -- If a bad line follows the lines so far, it is the first bad line of the bytes.
 bad_after : (n m k : ℕ) (partial bytes left rest : List ℕ) (Old Mid : List (List ℕ) → Type 0) →

@@ -1,6 +1,6 @@
 ghost use Rattle.std.specs.Prelude.{◌≡◌, ℕ, ◌+◌, ◌*◌, ◌≤◌, ◌<◌, ◌^◌, ◌↔◌, ◌++◌, [], false, true, codes, drop, Err, length, IfErr, IfOk, OnErr, OnOk};
 ghost use Rattle.memchr.specs.Find.{IsFirstByte, is_byte};
-ghost use Rattle.mg_core.specs.aids.Resuming.{AllResumed, BytesResumed, EndedResumed, HasFollowed, IsAfterTicks, KeepsLines, LastResumed, TicksTaken};
+ghost use Rattle.mg_core.specs.aids.Resuming.{AllResumed, BytesResumed, CopiesTaken, EndedResumed, HasFollowed, IsAfterCopies, KeepsLines, LastResumed};
 ghost use Rattle.mg_core.specs.declared.script_runner.TheConstants.{PARTIAL_LIMIT};
 ghost use Rattle.mg_core.specs.Follow.{HasRun};
 ghost use Rattle.mg_core.specs.World.{World};
@@ -38,7 +38,7 @@ const SIXTEEN_TICKS: &[u8; 80] =
 /// Counts the `tick` lines at the start of some text, sixteen at a time. Up to fifteen `tick` lines may remain
 /// uncounted.
 fn leading_ticks(text: &[u8]) -> usize
-    ensures value { IsAfterTicks result text.now (drop (5 * result) text.now) }
+    ensures value { IsAfterCopies (codes "tick") result text.now (drop (5 * result) text.now) }
     ensures within { 5 * result ≤ length text.now }
 {
     let mut rest = text;
@@ -46,6 +46,24 @@ fn leading_ticks(text: &[u8]) -> usize
     while let Some(next) = rest.strip_prefix(SIXTEEN_TICKS.as_slice()) {
         rest = next;
         count += 16;
+    }
+    count
+}
+
+/// Eight `ticks 10` lines. A journal has such a line for every ten ticks between which no message arrives.
+const EIGHT_TENS: &[u8; 72] =
+    b"ticks 10\nticks 10\nticks 10\nticks 10\nticks 10\nticks 10\nticks 10\nticks 10\n";
+
+/// Counts the `ticks 10` lines at the start of some text, eight at a time. Up to seven such lines may remain uncounted.
+fn leading_tens(text: &[u8]) -> usize
+    ensures value { IsAfterCopies (codes "ticks 10") result text.now (drop (9 * result) text.now) }
+    ensures within { 9 * result ≤ length text.now }
+{
+    let mut rest = text;
+    let mut count = 0;
+    while let Some(next) = rest.strip_prefix(EIGHT_TENS.as_slice()) {
+        rest = next;
+        count += 8;
     }
     count
 }
@@ -145,8 +163,8 @@ impl Resumer {
         ensures partial { self.new.partial ≡ self.old.partial }
         ensures lines { IfOk result (λ rest. self.new.lines + length rest.now ≤ self.old.lines + length text.now) }
         ensures short { IfOk result (λ rest. length rest.now ≤ length text.now) }
-        ensures value { (start : F) (base : World) → IfOk result (λ rest. TicksTaken self.old.lines self.new.lines
-            text.now rest.now
+        ensures value { (start : F) (base : World) → IfOk result (λ rest. CopiesTaken (codes "tick")
+            self.old.lines self.new.lines text.now rest.now
             (KeepsLines base self.old.runner.core.state self.old.runner.counts self.old.runner.ticks
             (HasFollowed F.follows start follower.old base))
             (KeepsLines base self.new.runner.core.state self.new.runner.counts self.new.runner.ticks
@@ -157,6 +175,35 @@ impl Resumer {
         self.runner.take_ticks(count as u64, follower)?;
         self.lines += count as u64;
         let (_, rest) = text.split_at(5 * count);
+        Ok(rest)
+    }
+
+    /// Counts the ticks of the `ticks 10` lines at the start of some text, and returns the rest of the text. Up to seven
+    /// such lines may remain in the rest; all remain if the script doesn't count ticks.
+    fn take_tens<'a, F: Follower>(
+        &mut self,
+        text: &'a [u8],
+        follower: &mut F,
+    ) -> Result<&'a [u8], Stopped>
+        requires few { self.old.lines + length text.now < 2 ^ 64 }
+        ensures partial { self.new.partial ≡ self.old.partial }
+        ensures lines { IfOk result (λ rest. self.new.lines + length rest.now ≤ self.old.lines + length text.now) }
+        ensures short { IfOk result (λ rest. length rest.now ≤ length text.now) }
+        ensures value { (start : F) (base : World) → IfOk result (λ rest. CopiesTaken (codes "ticks 10")
+            self.old.lines self.new.lines text.now rest.now
+            (KeepsLines base self.old.runner.core.state self.old.runner.counts self.old.runner.ticks
+            (HasFollowed F.follows start follower.old base))
+            (KeepsLines base self.new.runner.core.state self.new.runner.counts self.new.runner.ticks
+            (HasFollowed F.follows start follower.new base))) }
+        ensures stops { OnErr result (F.may_stop ≡ true) }
+    {
+        if !self.runner.counts {
+            return Ok(text);
+        }
+        let count = leading_tens(text);
+        self.runner.take_ticks(10 * count as u64, follower)?;
+        self.lines += count as u64;
+        let (_, rest) = text.split_at(9 * count);
         Ok(rest)
     }
 
@@ -181,7 +228,8 @@ impl Resumer {
             let (part, tail) = rest.split_at(end);
             self.end_line(alloc, part, follower)?;
             let (_, next) = tail.split_at(1);
-            rest = self.take_ticks(next, follower)?;
+            let next = self.take_ticks(next, follower)?;
+            rest = self.take_tens(next, follower)?;
         }
         self.keep(rest)
     }
@@ -218,7 +266,7 @@ impl Resumer {
         Ok(())
     }
 
-    /// Reads a whole script, and runs it on a new gateway.
+    /// Reads a whole script, and runs it on the runner's gateway. The runner must not have run anything yet.
     pub fn take_all<R: Read, F: Follower>(
         &mut self,
         alloc: Global,
@@ -244,8 +292,8 @@ impl Resumer {
         Err(ScriptFault::Read)
     }
 
-    /// Reads a script until it ends or the follower is done, and runs it on a new gateway. All ticks that have arrived
-    /// are run before more of the script is read.
+    /// Reads a script until it ends or the follower is done, and runs it on the runner's gateway. The runner must not
+    /// have run anything yet. All ticks that have arrived are run before more of the script is read.
     pub fn take_until_done<R: Read, F: Watcher>(
         &mut self,
         alloc: Global,

@@ -19,7 +19,7 @@ use Rattle.mg_joined.specs.declared.later.Later.{Later}
 use Rattle.mg_joined.specs.declared.source.Source.{Source}
 use Rattle.mg_joined.specs.Joined.{are_following, behind, follows, from_follows, joined}
 use Rattle.mg_joined.specs.aids.Joining.{IsJoining, IsLater, Opens, all_known, all_left, cons_known, left_of, script_left}
-use Rattle.mg_joined.specs.aids.Reading.{HasReadLine, IsBefore}
+use Rattle.mg_joined.specs.aids.Reading.{HasReadLine, HasReadLines, IsBefore}
 use Rattle.mg_joined.proofs.LaterLemmas.{front_and_rest, line_and_rest}
 
 same_some : {A : Type 0} (a b : A) → Some a ≡ Some b → a ≡ b
@@ -43,28 +43,36 @@ does_follow text next end titled line_is is = both
     (line_is ∙ ap (λ (l : List ℕ). codes "# follows " ++ l) is))
     (same_bytes (take_through 10 next) (take_through 10 text) titled)
 
+-- If a text is empty, so is its end.
+no_bytes : (xs ys : List ℕ) → xs ++ ys ≡ [] → ys ≡ []
+no_bytes [] ys h = h
+no_bytes (x ∷ xs) ys h = absurd (omega (arith, ap length h))
+
 module _ {B : Type 0} (remaining : B → Option (List ℕ)) where
   -- What a struct's ghost field says.
   abbrev Joins : Option (List (List ℕ)) → Bool → Source B → List (Later B) → Type 0
   Joins texts is_broken source later =
       IfSome texts (λ known. is_broken ≡ false → IsJoining remaining known source later)
 
+  -- Lines were read.
+  abbrev Reads : (old new : Source B) → Bool → (lines : List ℕ) → Type 0
+  Reads old new some lines = (before left : List ℕ) → remaining old.reader ≡ Some left →
+      IsBefore before left old.chain → HasReadLines before left some lines (remaining new.reader) new.chain
+
   -- A line was read.
-  abbrev Reads : (old new : Source B) → Bool → (line : List ℕ) → Type 0
-  Reads old new some line = (before left : List ℕ) → remaining old.reader ≡ Some left →
+  abbrev ReadsLine : (old new : Source B) → Bool → (line : List ℕ) → Type 0
+  ReadsLine old new some line = (before left : List ℕ) → remaining old.reader ≡ Some left →
       IsBefore before left old.chain → HasReadLine before left some line (remaining new.reader) new.chain
 
   joining_line : (texts : List (List ℕ)) (old new : Source B) (later : List (Later B)) (some : Bool) (line : List ℕ) →
       Reads old new some line → IsJoining remaining texts old later → IsJoining remaining texts new later
   joining_line texts old new later some line reads j =
       let h = reads j.before j.left j.rest_is j.is_before in
-      let same : (j.before ++ line) ++ drop_through 10 j.left ≡ j.before ++ j.left =
-      append_assoc j.before line (drop_through 10 j.left)
-      ∙ ap (λ (l : List ℕ). j.before ++ l) (ap (λ (l : List ℕ). l ++ drop_through 10 j.left) h.line_is
-      ∙ sym (line_and_rest j.left)) in
+      let same : (j.before ++ line) ++ h.after ≡ j.before ++ j.left =
+      append_assoc j.before line h.after ∙ ap (λ (l : List ℕ). j.before ++ l) (sym h.parts) in
       record {
         before = j.before ++ line;
-        left = drop_through 10 j.left;
+        left = h.after;
         others = j.others;
         rest_is = h.rest_is;
         is_before = h.is_before;
@@ -91,7 +99,7 @@ module _ {B : Type 0} (remaining : B → Option (List ℕ)) where
   end_of (Some texts) is_broken old new later line whole reads h =
       let j = h whole in
       let r = reads j.before j.left j.rest_is j.is_before in
-      r.rest_is ∙ ap (λ (l : List ℕ). Some (drop_through 10 l)) (r.none refl)
+      r.rest_is ∙ ap Some (no_bytes line r.after (sym r.parts ∙ r.none refl))
 
   -- At the end of a file, nothing is left.
   pub ends_file : (texts : Option (List (List ℕ))) (is_broken : Bool) (old new : Source B) (later : List (Later B))
@@ -178,7 +186,7 @@ module _ {B : Type 0} (remaining : B → Option (List ℕ)) where
 
   -- ## The beginning
 
-  -- The texts of open files are known.
+  -- If the texts of the files are known, each file was read up to its line `# follows`.
   opened_all : (title : List ℕ) (files : List B) (later : List (Later B)) (others : List (List ℕ)) →
       all_known (map remaining files) ≡ Some others → AllZip (Opens remaining title) files later →
       AllZip (IsLater remaining title) others later
@@ -218,7 +226,7 @@ module _ {B : Type 0} (remaining : B → Option (List ℕ)) where
       × (script_left remaining (Some texts) line source later ≡ Some (joined texts))
 
   starts : (text : List ℕ) (others : List (List ℕ)) (old new : Source B) (some : Bool) (line : List ℕ)
-      (later : List (Later B)) → remaining old.reader ≡ Some text → IsBefore [] text old.chain → Reads old new some line →
+      (later : List (Later B)) → remaining old.reader ≡ Some text → IsBefore [] text old.chain → ReadsLine old new some line →
       AllZip (IsLater remaining line) others later → Begins line new later (text ∷ others)
   starts text others old new some line later known is_before reads opened =
       let h = reads [] text known is_before in
@@ -244,7 +252,7 @@ module _ {B : Type 0} (remaining : B → Option (List ℕ)) where
   -- The first line of the first file was read, and the other files are open.
   pub begins : (texts : Option (List (List ℕ))) (file : B) (files : List B) (old new : Source B) (some : Bool)
       (line : List ℕ) (later : List (Later B)) → texts ≡ all_known (remaining file ∷ map remaining files) →
-      old.reader ≡ file → ((left : List ℕ) → IsBefore [] left old.chain) → Reads old new some line →
+      old.reader ≡ file → ((left : List ℕ) → IsBefore [] left old.chain) → ReadsLine old new some line →
       AllZip (Opens remaining line) files later → IfSome texts (Begins line new later)
   begins texts file files old new some line later is reader_is is_before reads opened =
       subst (λ (t : Option (List (List ℕ))). IfSome t (Begins line new later)) (sym is)

@@ -32,8 +32,9 @@ struct Extent {
 pub struct Joined<B: BufRead, K: TextsKey> {
     source: Source<B>,
     later: VecDeque<Later<B>>,
-    line: Vec<u8>,
-    /// The number of bytes of the line that were read.
+    /// Lines of the file.
+    front: Vec<u8>,
+    /// The number of bytes of these lines that were read.
     at: usize,
     /// Whether a read of a file failed.
     is_broken: bool,
@@ -43,7 +44,7 @@ pub struct Joined<B: BufRead, K: TextsKey> {
     lines: u64,
     extents: Vec<Extent>,
     of: PhantomData<K>,
-    ghost within: { at ≤ length line.items },
+    ghost within: { at ≤ length front.items },
     ghost joining: { ∥ IfSome K.texts (λ texts. is_broken ≡ false →
         IsJoining B.remaining texts source later.items) ∥₁ },
 }
@@ -77,7 +78,7 @@ impl<B: BufRead + Drop, K: TextsKey> Joined<B, K> {
         Ok(Joined {
             source,
             later,
-            line,
+            front: line,
             at: 0,
             is_broken: false,
             is_apart: false,
@@ -90,13 +91,13 @@ impl<B: BufRead + Drop, K: TextsKey> Joined<B, K> {
     /// Goes on with the next file. Returns whether there is one. Fails if it doesn't follow the file that was read.
     fn next_file(&mut self) -> io::Result<bool>
         requires whole { self.old.is_broken ≡ false }
-        requires read { self.old.line.items ≡ [] }
+        requires read { self.old.front.items ≡ [] }
         requires ended { IfSome K.texts (λ texts. B.remaining self.old.source.reader ≡ Some []) }
         ensures kept { Keeps (⟦<Joined<B, K> as Read>⟧.remaining self.old)
             (⟦<Joined<B, K> as Read>⟧.remaining self.new) }
         ensures last { IfOk result (λ some. some ≡ false →
             IsAtEnd (⟦<Joined<B, K> as Read>⟧.remaining self.new)) }
-        ensures line { (self.new.line ≡ self.old.line) × (self.new.at ≡ self.old.at) }
+        ensures front { (self.new.front ≡ self.old.front) × (self.new.at ≡ self.old.at) }
         ensures whole { self.new.is_broken ≡ false }
     {
         let Some(next) = self.later.front() else {
@@ -119,23 +120,24 @@ impl<B: BufRead + Drop, K: TextsKey> Joined<B, K> {
         Ok(true)
     }
 
-    /// Reads the next line of the file. Returns whether there was one.
-    fn read_line(&mut self) -> io::Result<bool>
+    /// Reads the next lines of the file. Returns whether there were any.
+    fn read_lines(&mut self) -> io::Result<bool>
         requires whole { self.old.is_broken ≡ false }
-        requires read { self.old.at ≡ length self.old.line.items }
+        requires read { self.old.at ≡ length self.old.front.items }
         ensures kept { Keeps (⟦<Joined<B, K> as Read>⟧.remaining self.old)
             (⟦<Joined<B, K> as Read>⟧.remaining self.new) }
-        ensures none { IfOk result (λ some. some ≡ false → (self.new.line.items ≡ [])
+        ensures none { IfOk result (λ some. some ≡ false → (self.new.front.items ≡ [])
             × IfSome K.texts (λ texts. B.remaining self.new.source.reader ≡ Some [])) }
-        ensures some { IfOk result (λ some. some ≡ true → 0 < length self.new.line.items) }
+        ensures some { IfOk result (λ some. some ≡ true → 0 < length self.new.front.items) }
         ensures at { self.new.at ≡ 0 }
         ensures whole { OnOk result (self.new.is_broken ≡ false) }
     {
         self.at = 0;
-        self.line.clear();
-        match self.source.read_line(&mut self.line) {
+        self.front.clear();
+        match self.source.read_lines(&mut self.front) {
             Ok(true) => {
-                self.lines = self.lines.saturating_add(1);
+                let count = count_lines(self.front.as_slice());
+                self.lines = self.lines.saturating_add(count);
                 Ok(true)
             }
             Ok(false) => Ok(false),
@@ -146,37 +148,37 @@ impl<B: BufRead + Drop, K: TextsKey> Joined<B, K> {
         }
     }
 
-    /// Reads the next line. At the end of the last file, the line is empty.
-    fn next_line(&mut self) -> io::Result<()>
+    /// Reads the next lines. At the end of the last file, there are none.
+    fn next_lines(&mut self) -> io::Result<()>
         requires whole { self.old.is_broken ≡ false }
-        requires read { self.old.at ≡ length self.old.line.items }
+        requires read { self.old.at ≡ length self.old.front.items }
         ensures kept { Keeps (⟦<Joined<B, K> as Read>⟧.remaining self.old)
             (⟦<Joined<B, K> as Read>⟧.remaining self.new) }
-        ensures last { OnOk result (self.new.line.items ≡ [] →
+        ensures last { OnOk result (self.new.front.items ≡ [] →
             IsAtEnd (⟦<Joined<B, K> as Read>⟧.remaining self.new)) }
         ensures at { self.new.at ≡ 0 }
         ensures whole { OnOk result (self.new.is_broken ≡ false) }
     {
         for _ in 0..=self.later.len() {
-            if self.read_line()? || !self.next_file()? {
+            if self.read_lines()? || !self.next_file()? {
                 return Ok(());
             }
         }
         Err(Error::from(ErrorKind::Other))
     }
 
-    /// Reads the next line if the line was read to its end.
+    /// Reads the next lines if those before were read to their end.
     fn fill(&mut self) -> io::Result<()>
         requires whole { self.old.is_broken ≡ false }
         ensures kept { Keeps (⟦<Joined<B, K> as Read>⟧.remaining self.old)
             (⟦<Joined<B, K> as Read>⟧.remaining self.new) }
-        ensures last { OnOk result (self.new.at ≡ length self.new.line.items →
+        ensures last { OnOk result (self.new.at ≡ length self.new.front.items →
             IsAtEnd (⟦<Joined<B, K> as Read>⟧.remaining self.new)) }
     {
-        if self.at < self.line.len() {
+        if self.at < self.front.len() {
             return Ok(());
         }
-        self.next_line()
+        self.next_lines()
     }
 
     /// Reads to the end. Returns whether the end was reached, and each file follows the one before it.
@@ -187,11 +189,11 @@ impl<B: BufRead + Drop, K: TextsKey> Joined<B, K> {
             return false;
         }
         for _ in 0..u64::MAX {
-            self.at = self.line.len();
-            if self.next_line().is_err() {
+            self.at = self.front.len();
+            if self.next_lines().is_err() {
                 return false;
             }
-            if self.line.is_empty() {
+            if self.front.is_empty() {
                 return self.later.is_empty();
             }
         }
@@ -227,6 +229,18 @@ impl<B: BufRead + Drop, K: TextsKey> Joined<B, K> {
     }
 }
 
+/// Returns the number of lines in some text. The last one may be incomplete.
+fn count_lines(text: &[u8]) -> u64 {
+    let mut count: u64 = 0;
+    for byte in text {
+        count = count.saturating_add(u64::from(*byte == b'\n'));
+    }
+    match text.last() {
+        None | Some(b'\n') => count,
+        Some(_) => count.saturating_add(1),
+    }
+}
+
 /// Reads files up to their lines `# follows`. They must begin with this title.
 fn open_rest<B: BufRead + Drop>(
     alloc: Global,
@@ -251,15 +265,15 @@ impl<B: BufRead + Drop, K: TextsKey> Read for Joined<B, K> {
     ghost use Rattle.std.specs.Prelude.{drop};
     ghost use Rattle.mg_joined.specs.aids.Joining.{script_left};
 
-    ghost remaining = { λ j. script_left B.remaining K.texts (drop j.at j.line.items) j.source j.later.items };
+    ghost remaining = { λ j. script_left B.remaining K.texts (drop j.at j.front.items) j.source j.later.items };
 
     fn read(&mut self, buffer: &mut [u8]) -> io::Result<usize> {
         if self.is_broken {
             return Err(Error::from(ErrorKind::Other));
         }
         self.fill()?;
-        let n = buffer.len().min(self.line.len() - self.at);
-        buffer[..n].copy_from_slice(&self.line[self.at..self.at + n]);
+        let n = buffer.len().min(self.front.len() - self.at);
+        buffer[..n].copy_from_slice(&self.front[self.at..self.at + n]);
         self.at += n;
         Ok(n)
     }

@@ -77,14 +77,15 @@ abbrev pub EventResumed : Bool → Event → (Old New : List Note → Type 0)
 EventResumed may_stop event Old New result =
     Resumes may_stop (Adds Old New (Happened event ∷ [])) (λ bad. ⊥) result
 
--- A line that doesn't count ticks was run, or is bad. `number` is its number.
+-- A line that doesn't count ticks was run, or is bad, or the step failed as `Resumes` says. `number` is the line's
+-- number.
 abbrev pub LineResumed : Bool → ℕ → List ℕ → (Old New : List Note → Type 0)
     → Result (Unit {0}) LineFault → Type 0
 LineResumed may_stop number line Old New result =
     Resumes may_stop (LinesResumed Old New (line ∷ []))
     (λ bad. (bad ≡ number) × (event_of line ≡ None)) result
 
--- A line was read, or is bad. `number` is its number.
+-- A line was read, or is bad, or the step failed as `Resumes` says. `number` is the line's number.
 abbrev pub LineRead : Bool → ℕ → List ℕ → (Old New : List (List ℕ) → Type 0)
     → Result (Unit {0}) LineFault → Type 0
 LineRead may_stop number line Old New result =
@@ -100,23 +101,25 @@ pub record StartsBad (Old : List (List ℕ) → Type 0) (count : ℕ) (lines : L
   pub is_bad : IsBadLine Old bad
   pub number_is : number ≡ count + 1
 
--- The text is a line that ended with a line feed. The line was read, or is the first bad line.
+-- A line feed ends this text as a line. The line was read, or is the first bad line, or the step failed as `Resumes`
+-- says.
 abbrev pub EndedResumed : Bool → ℕ → List ℕ → (Old New : List (List ℕ) → Type 0)
     → Result (Unit {0}) LineFault → Type 0
 EndedResumed may_stop count text Old New result =
     Resumes may_stop (Adds Old New (without_return text ∷ []))
     (λ bad. (more : List ℕ) → StartsBad Old count (lines_after true text (10 ∷ more)) bad) result
 
--- The text consists of this many `tick` lines and the rest.
-abbrev pub IsAfterTicks : ℕ → (text rest : List ℕ) → Type 0
-IsAfterTicks count text rest = text ≡ concat (replicate count (codes "tick\n")) ++ rest
+-- The text consists of this many copies of a line, each with a line feed, and the rest.
+abbrev pub IsAfterCopies : (line : List ℕ) → ℕ → (text rest : List ℕ) → Type 0
+IsAfterCopies line count text rest = text ≡ concat (replicate count (line ++ 10 ∷ [])) ++ rest
 
--- The `tick` lines at the start of some text were counted.
-pub record TicksTaken (count counted : ℕ) (text rest : List ℕ) (Old New : List (List ℕ) → Type 0) : Type 0 where
-  pub ticks : ℕ
-  pub number : counted ≡ count + ticks
-  pub parts : IsAfterTicks ticks text rest
-  pub adds : Adds Old New (replicate ticks (codes "tick"))
+-- The copies of a line at the start of some text were read.
+pub record CopiesTaken (line : List ℕ) (count counted : ℕ) (text rest : List ℕ)
+    (Old New : List (List ℕ) → Type 0) : Type 0 where
+  pub copies : ℕ
+  pub number : counted ≡ count + copies
+  pub parts : IsAfterCopies line copies text rest
+  pub adds : Adds Old New (replicate copies line)
 
 -- Lines were read. They consist of a partial line and all bytes except the rest, and the next line starts with the
 -- bytes in `left`.
@@ -142,14 +145,16 @@ pub record BytesBad (Old : List (List ℕ) → Type 0) (count : ℕ) (partial by
   pub number_is : number ≡ count + length lines + 1
   pub good : (before : List (List ℕ)) → Old before → AreGood (before ++ lines)
 
--- The complete lines in a partial line and the bytes after it were read, or one of these lines is the first bad line.
+-- A partial line and the bytes after it are one text. Its complete lines were read, or one of them is the first bad
+-- line. Otherwise the step failed as `Resumes` says.
 abbrev pub BytesResumed : Bool → ℕ → ℕ → (partial bytes left : List ℕ)
     → (Old New : List (List ℕ) → Type 0) → Result (Unit {0}) LineFault → Type 0
 BytesResumed may_stop count counted partial bytes left Old New result =
     Resumes may_stop (BytesRun count counted partial bytes left [] Old New)
     (BytesBad Old count partial bytes) result
 
--- At the end of the script, a non-empty partial line was read as the last line, or is bad.
+-- At the end of the script, a non-empty partial line was read as the last line, or is bad. Otherwise the step failed as
+-- `Resumes` says.
 abbrev pub LastResumed : Bool → ℕ → List ℕ → (Old New : List (List ℕ) → Type 0)
     → Result (Unit {0}) LineFault → Type 0
 LastResumed may_stop count partial Old New result =

@@ -1,6 +1,7 @@
 -- Files that are read line by line.
 use Rattle.std.specs.Prelude.{◌≡◌, ℕ, ◌<◌, Bool, true, false, List, [], ◌∷◌, ◌++◌, length, Option, Some, codes}
 use Rattle.std.specs.Io.BufRead.{drop_through, take_through}
+use Rattle.std.specs.Io.KnownBytes.{Consumes}
 use Rattle.sha2.specs.declared.Sha256.{Sha256}
 use Rattle.sha2.specs.Hashers.{Holds256}
 use Rattle.mg_chain.specs.Seals.{is_whole, last_part}
@@ -18,6 +19,22 @@ pub record HasReadLine (before left : List ℕ) (some : Bool) (line : List ℕ) 
   pub rest_is : rest ≡ Some (drop_through 10 left)
   pub none : some ≡ false → left ≡ []
   pub is_before : IsBefore (before ++ line) (drop_through 10 left) chain
+
+-- Lines were read, or there were none.
+pub record HasReadLines (before left : List ℕ) (some : Bool) (lines : List ℕ) (rest : Option (List ℕ))
+    (chain : Sha256) : Type 0 where
+  pub after : List ℕ
+  pub parts : left ≡ lines ++ after
+  pub rest_is : rest ≡ Some after
+  pub none : some ≡ false → left ≡ []
+  pub is_before : IsBefore (before ++ lines) after chain
+
+-- Whole lines were taken from what a reader has left, and appended to some bytes.
+pub record HasTakenLines (old new : Option (List ℕ)) (before after : List ℕ) : Type 0 where
+  pub lines : List ℕ
+  pub appended : after ≡ before ++ lines
+  pub whole : is_whole lines ≡ true
+  pub consumed : Consumes old new lines
 
 -- The first line was read, and is this title.
 pub record IsTitled (title text : List ℕ) (rest : Option (List ℕ)) (chain : Sha256) : Type 0 where

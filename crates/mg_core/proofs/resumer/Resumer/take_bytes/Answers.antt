@@ -2,7 +2,7 @@ use Rattle.std.proofs.Common.{drop, length, ap, refl, arith, length-append, ◌�
 use Rattle.std.proofs.lemmas.Result.{err_from_is_err_and}
 use Rattle.mg_core.specs.aids.Resuming.{HasFollowed, KeepsLines}
 use Rattle.mg_core.proofs.ResumeLemmas.{good}
-use Rattle.mg_core.proofs.ResumedBytesLemmas.{bytes_feed, bytes_last, bytes_start, bytes_stop, bytes_ticks, cut_at_feed, no_feed}
+use Rattle.mg_core.proofs.ResumedBytesLemmas.{bytes_feed, bytes_last, bytes_start, bytes_stop, bytes_tens, bytes_ticks, cut_at_feed, no_feed}
 use Rattle.mg_core.proofs.resumer.Resumer.take_bytes.Goals as goal
 
 pub loop-end-init : goal.loop-end-init
@@ -40,7 +40,7 @@ loop-end-smaller g c =
     let next = c.split_at-in-Some.result.1.now in
     let cut = cut_at_feed rest part c.split_at.result.1.now next c.in-Some.end c.in-Some.ensures.value
     c.split_at.ensures.front c.split_at.ensures.back c.split_at-in-Some.ensures.back in
-    omega (arith, c.in_ok-rest.ensures.short, ap length cut.parts, length-append part (10 ∷ next))
+    omega (arith, c.in_ok-next.ensures.short, c.in_ok-rest.ensures.short, ap length cut.parts, length-append part (10 ∷ next))
 
 pub loop-end-preserved : goal.loop-end-preserved
 loop-end-preserved g c =
@@ -54,28 +54,36 @@ loop-end-preserved g c =
       lines = omega (
         arith,
         c.in_ok-end_line.ensures.lines,
+        c.in_ok-next.ensures.lines,
         c.in_ok-rest.ensures.lines,
         c.loop-end.invariant.lines,
         ap length cut.parts,
         length-append part (10 ∷ next),
       );
-      value = rw (c.take_ticks.ensures.partial, c.in_ok-end_line.ensures.partial) (λ start base.
+      value = rw (c.take_tens.ensures.partial, c.take_ticks.ensures.partial, c.in_ok-end_line.ensures.partial) (λ start base.
           let was = c.end_line.new.self.runner in
-          let is = c.take_ticks.new.self.runner in
+          let mid = c.take_ticks.new.self.runner in
+          let is = c.take_tens.new.self.runner in
+          let first = c.args.self.now.lines in
+          let partial = c.args.self.now.partial.text in
+          let bytes = c.args.bytes.now in
           let Old = KeepsLines base c.args.self.now.runner.core.state c.args.self.now.runner.counts c.args.self.now.runner.ticks
           (HasFollowed follows start c.args.follower.now base) in
           let Was = KeepsLines base was.core.state was.counts was.ticks
           (HasFollowed follows start c.end_line.new.follower base) in
-          let fed = bytes_feed
-          c.args.self.now.lines c.loop-end.self.lines c.args.self.now.partial.text c.args.bytes.now
-          c.loop-end.self.partial.text rest part next Old
+          let Mid = KeepsLines base mid.core.state mid.counts mid.ticks
+          (HasFollowed follows start c.take_ticks.new.follower base) in
+          let Is = KeepsLines base is.core.state is.counts is.ticks
+          (HasFollowed follows start c.take_tens.new.follower base) in
+          let fed = bytes_feed first c.loop-end.self.lines partial bytes c.loop-end.self.partial.text rest part next Old
           (KeepsLines base c.loop-end.self.runner.core.state c.loop-end.self.runner.counts c.loop-end.self.runner.ticks
           (HasFollowed follows start c.loop-end.follower base)) Was (c.loop-end.invariant.value start base) cut
           (c.in_ok-end_line.ensures.value start base) in
-          bytes_ticks c.args.self.now.lines c.end_line.new.self.lines c.take_ticks.new.self.lines
-          c.args.self.now.partial.text c.args.bytes.now next c.in_ok-rest.rest.now Old Was
-          (KeepsLines base is.core.state is.counts is.ticks (HasFollowed follows start c.take_ticks.new.follower base))
-          (rw (← c.in_ok-end_line.ensures.lines) at fed) (c.in_ok-rest.ensures.value start base));
+          let ticked = bytes_ticks first c.end_line.new.self.lines c.take_ticks.new.self.lines partial bytes next
+          c.in_ok-next.next.now Old Was Mid (rw (← c.in_ok-end_line.ensures.lines) at fed)
+          (c.in_ok-next.ensures.value start base) in
+          bytes_tens first c.take_ticks.new.self.lines c.take_tens.new.self.lines partial bytes c.in_ok-next.next.now
+          c.in_ok-rest.rest.now Old Mid Is ticked (c.in_ok-rest.ensures.value start base));
     }
 
 pub returns-clause-value : goal.returns-clause-value

@@ -1,5 +1,5 @@
-use Rattle.std.proofs.Common.{ℕ, List, refl, sym, subst}
-use Rattle.mg_core.specs.aids.Resuming.{HasFollowed, IsAfterTicks}
+use Rattle.std.proofs.Common.{ℕ, List, codes, refl, sym, subst}
+use Rattle.mg_core.specs.aids.Resuming.{HasFollowed, IsAfterCopies}
 use Rattle.mg_core.proofs.ResumeLemmas.{ticks_read}
 use Rattle.mg_core.proofs.resumer.Resumer.take_ticks.Goals as goal
 
@@ -10,9 +10,9 @@ returns-clause-value g c start base =
     let new = c.take_ticks.new.self in
     let count = c.leading_ticks-count.result in
     record {
-      ticks = count;
+      copies = count;
       number = refl;
-      parts = subst (λ (l : List ℕ). IsAfterTicks count c.args.text.now l) (sym c.split_at.ensures.back)
+      parts = subst (λ (l : List ℕ). IsAfterCopies (codes "tick") count c.args.text.now l) (sym c.split_at.ensures.back)
           c.leading_ticks-count.ensures.value;
       adds = ticks_read base old.core.state new.core.state old.counts new.counts old.ticks new.ticks
           (HasFollowed follows start c.args.follower.now base) (HasFollowed follows start c.take_ticks.new.follower base)

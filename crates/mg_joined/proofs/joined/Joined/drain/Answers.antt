@@ -4,7 +4,7 @@ use Rattle.mg_joined.proofs.joined.Joined.drain.Goals as goal
 
 pub returns-then-is_empty : goal.returns-then-is_empty
 returns-then-is_empty g c =
-    let self = c.next_line.new.self in
+    let self = c.next_lines.new.self in
     let whole : self.is_broken ≡ false = search rules in
     record {
       follows = λ empty. all_follow g.B.Read.remaining g.K.TextsKey.texts self.is_broken self.source self.later.items whole

@@ -86,7 +86,7 @@ refuses bytes numbers.Version (n, h) w = (readings.OtherVersion n, h, refl)
 refuses bytes numbers.NotServed h w = (readings.TooMany, h, refl)
 refuses bytes _ h w = absurd h
 
--- Each reading of the bytes of type `Parsed` belongs to a reading of type `MessageReading`.
+-- For each reading of the bytes that has the type `Parsed`, there is one that has the type `MessageReading`.
 reads_as : (bytes : List ℕ) (p : Parsed) → IsReadingOf bytes p →
     (reading : MessageReading) × IsMessageReading bytes reading × (p ≡ parsed_of reading)
 reads_as bytes (Message m) h = (readings.Read m, h.0, refl)

@@ -35,7 +35,7 @@ use Rattle.mg_core.specs.aids.Answers.{unless_kept}
 use Rattle.mg_core.specs.Apart.{AgreeOutside, Both, DifferAtPortsOf, FirstOnly, Happening, HearsNoneAt, SecondOnly}
 use Rattle.mg_core.specs.Apart.{UnheardChangesNothing, UnheardInHistories, UnheardInScripts, key_of, to_first, to_second}
 use Rattle.mg_core.specs.Step.{Sent, Packet, Run, Step}
-use Rattle.mg_core.specs.World.{World, packets_of, start_of, with_control}
+use Rattle.mg_core.specs.World.{World, packets_of, with_control}
 
 -- ## Keys of kept replies
 
@@ -305,8 +305,8 @@ module _ (event : SameEventKeepsAgreement) (one : OneArrivalKeepsAgreement)
     (turned : (some : List ℕ) (a b : World) → AgreeOutside some a b →
     AgreeOutside some b a) (same : engine.SamePackets)
   where
-    -- If two lists of events differ only in RTP datagrams to some terminations, the worlds still agree outside these
-    -- terminations.
+    -- Suppose two worlds agree outside some terminations, and then their events differ only in RTP datagrams at the
+    -- ports of these terminations. Then the worlds still agree outside these terminations.
     agree_after : (some : List ℕ) (a b x y : World) (xs : List Happening) (s t : List Sent) → AgreeOutside some a b →
         DifferAtPortsOf some a xs → Run a (to_first xs) s x → Run b (to_second xs) t y → AgreeOutside some x y
     agree_after some a b x y [] s t h only (sent, is) (also, its) =
@@ -355,16 +355,16 @@ unheard_in_histories lists some port base xs s t v w one other only (run, stands
     (lists some port base base v w xs s t (itself some base) only run runs).1
 
 pub unheard_in_scripts : UnheardChangesNothing → UnheardInScripts
-unheard_in_scripts lists some port config xs rest others first second one other counts more old new was now a b only is
+unheard_in_scripts lists some port base xs rest others first second one other counts more old new was now a b only is
     its =
-    let (v, before, after, run, are) = around_tick (start_of config) a.last (to_first xs) rest a.ran.sent
-    (subst (λ (events : List Event). Run (start_of config) events a.ran.sent a.last) is a.ran.run) in
-    let (w, earlier, later, runs, too) = around_tick (start_of config) b.last (to_second xs) others b.ran.sent
-    (subst (λ (events : List Event). Run (start_of config) events b.ran.sent b.last) its b.ran.run) in (
+    let (v, before, after, run, are) = around_tick base a.last (to_first xs) rest a.ran.sent
+    (subst (λ (events : List Event). Run base events a.ran.sent a.last) is a.ran.run) in
+    let (w, earlier, later, runs, too) = around_tick base b.last (to_second xs) others b.ran.sent
+    (subst (λ (events : List Event). Run base events b.ran.sent b.last) its b.ran.run) in (
       v,
       w,
       (before, after, run, are),
       (earlier, later, runs, too),
-      (lists some port (start_of config) (start_of config) v w xs before earlier (itself some (start_of config)) only run
+      (lists some port base base v w xs before earlier (itself some base) only run
           runs).1,
     )

@@ -115,7 +115,7 @@ nothing_else : (f : Event) (b : List Event) → AreSameToEachPort [] (f ∷ b) �
 nothing_else f b same =
     let is : [] ≡ f ∷ seen_at (port_of f) b = same (port_of f) ∙ seen_first (port_of f) f b (sees_its_own f) in cc is
 
--- If every port sees the first event, the other list begins with that event too.
+-- If every port sees the first event of one list, the other list begins with that event too.
 first_is : (e f : Event) (a b : List Event) → ((port : ℕ) → is_elsewhere port e ≡ false) →
     AreSameToEachPort (e ∷ a) (f ∷ b) → e ≡ f
 first_is e f a b all same =
@@ -137,7 +137,8 @@ at_port : (m n : ℕ) (b : Bool) → eqb m n ≡ b → not b ≡ false → m ≡
 at_port m n true e h = eqb-true m n e
 at_port m n false e h = absurd (cc h)
 
--- If the same packet is taken out of both lists, the lists are still the same to each port.
+-- Suppose one list begins with a packet, and in the other list, the packet's port sees no event before this packet. If
+-- the packet is taken out of both lists, they are still the same to each port.
 without_at : (port at : ℕ) (source : Peer) (bytes : List ℕ) (a before after : List Event) (b : Bool) →
     is_elsewhere port (Media at source bytes) ≡ b → are_elsewhere at before ≡ true → seen_at at after ≡ seen_at at a →
     AreSameToEachPort (Media at source bytes ∷ a) (before ++ Media at source bytes ∷ after) →
@@ -226,8 +227,8 @@ module _ (steps_are_one : (w : World) (event : Event) (s t : List Sent) (x y : W
               ap (λ (l : List Sent). l ++ later) swap.no_second,
         )
 
-    -- Suppose two runs begin with the same event, and their rests have the same outcome. Then the runs have the same
-    -- outcome.
+    -- Suppose two runs begin with the same event, and their remaining events have the same outcome. Then the runs have
+    -- the same outcome.
     join : (w : World) (e : Event) (a b : List Event) (s t : List Sent) (v x : World) → Run w (e ∷ a) s v →
         Run w (e ∷ b) t x → ((next : World) (others rest : List Sent) (sent : List Sent) → Step w e sent next →
         Run next a others v → Run next b rest x → (others ≡ rest) × (v ≡ x)) → (s ≡ t) × (v ≡ x)

@@ -27,7 +27,8 @@ agreement_has_same_flows a b talker listener h =
 same_listeners : (a b : World) → AgreeExceptReceived a b → listeners_of a.gateway ≡ listeners_of b.gateway
 same_listeners a b h = λ i. listeners_of (record a.gateway { rooms = h.rooms i; edits = h.edits i })
 
--- In two pairs of worlds that agree except for what was received, the same changes are reported.
+-- If two worlds agree except for what was received, and so do the worlds after them, the same changes are reported for
+-- both.
 same_changes : (a b x y : World) → AgreeExceptReceived a b → AgreeExceptReceived x y →
     changes_by a x ≡ changes_by b y
 same_changes a b x y h k =

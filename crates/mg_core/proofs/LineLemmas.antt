@@ -218,7 +218,8 @@ follows_after : (shown : Shown) (new : CoreState) (kept : Option (List Listener)
 follows_after shown new kept next (Ok done) stands same = record { stands = stands; same = same }
 follows_after shown new kept next (Err e) stands same = tt
 
--- Each followed world takes the step of an event, and the event's changes are written if changes are shown.
+-- Each followed world takes the step of an event. If changes are shown, the event's changes are written, completely or
+-- in part.
 pub changed_steps : (event : Event) (old mid new : CoreState) (kept before after : Option (List Listener))
     (n k m : ℕ) (a b l : Option (List ℕ)) (r : Result (Unit {0}) EventFault) → before ≡ kept → new ≡ mid → m ≡ k →
     Leads StandsFor old mid (λ w next. EventRan shows.Sent event w next n k a b (Ok tt)) →
@@ -235,7 +236,8 @@ changed_steps event old mid new kept before after n k m a b l r was is counts h 
       follows_after shown new after next r (subst (λ (x : CoreState). StandsFor x next) (sym is) stands) reported.1,
     )
 
--- Each followed world takes the step of an event, even if its datagrams were not all written or memory ran out.
+-- If an event's datagrams were not all written, or memory ran out, each followed world has the same result, whether or
+-- not changes are shown.
 pub cut_steps : (event : Event) (old new : CoreState) (kept after : Option (List Listener)) (n m : ℕ)
     (a b : Option (List ℕ)) (e : EventFault) →
     Leads StandsFor old new (λ w next. EventRan shows.Sent event w next n m a b (Err e)) → (shown : Shown) →
@@ -275,7 +277,7 @@ pub one_line : (line : List ℕ) (e : Option Event) → event_of line ≡ Some e
 unfolding events_of
 one_line line e is = rw is refl
 
--- A comment line has no event, so the world and the output stay unchanged.
+-- A comment or an empty line has no event, so the world and the output stay unchanged.
 pub comment_ran : (shown : Shown) (number : ℕ) (line : List ℕ) (w : World) (n : ℕ) (a : Option (List ℕ)) →
     event_of line ≡ Some None → LineRan shown number line w w n n a a (Ok tt)
 unfolding after_sent

@@ -254,7 +254,7 @@ none_later n (y ∷ ys) h =
     rw (ne_eqb y.number n (λ e. absurd (omega (arith, e, lt))))
     (none_later n ys (All-tail (λ z. n < z.number) y ys h))
 
--- If numbers rise, the first fact about a termination is in its own entries.
+-- If the numbers in a list of listeners rise, the first fact about a termination is in that termination's own entries.
 pub first_of_news : {A : Type 0} (n : ℕ) (g : Said → Option A) (before ys : List Listener) → Rises ys →
     first (about n g) (flat_map (news before) ys) ≡
     option_and_then (λ y. first (about n g) (news before y)) (listener_at ys n)

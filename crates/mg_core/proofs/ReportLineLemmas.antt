@@ -71,7 +71,8 @@ two_parts byte a b s t h k e =
 decimal_plain : (byte n : ℕ) → byte < 48 → IsShort n → list_all (is_not byte) (decimal n) ≡ true
 decimal_plain byte n small short = decimal_passes (is_not byte) (decimals_above byte small) n short
 
--- Suppose two equal strings start with a number and a space. Then the numbers are equal, and so are the rests.
+-- Suppose two equal strings start with a number and a space. Then the numbers are equal, and so is the text after the
+-- space.
 number_then : (m n : ℕ) (s t : List ℕ) → IsShort m → IsShort n → decimal m ++ 32 ∷ s ≡ decimal n ++ 32 ∷ t →
     (m ≡ n) × (s ≡ t)
 number_then m n s t h k e =

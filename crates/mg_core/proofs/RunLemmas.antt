@@ -6,9 +6,8 @@ use Rattle.std.specs.Prelude.{OnOk}
 use Rattle.mg_words.specs.OptionSteps.{◌>>=◌}
 use Rattle.std.proofs.KnownBytes.{Consumes-nil, Consumes-trans, Consumes-kept}
 use Rattle.std.specs.Io.KnownBytes.{Keeps, Consumes, IsAtEnd}
-use Rattle.mg_engine.specs.declared.config.Config.{Config}
 use Rattle.mg_core.specs.declared.state.CoreState.{CoreState}
-use Rattle.mg_core.specs.World.{World, start_of}
+use Rattle.mg_core.specs.World.{World}
 use Rattle.mg_core.specs.aids.Stands.{StandsFor}
 use Rattle.mg_core.specs.declared.event.Event.{Event}
 use Rattle.mg_core.specs.declared.line_runner.LineRunner.{LineRunner}
@@ -120,7 +119,7 @@ module _ (shown : Shown) where
     written = appends_then a b c h.text k.text h.written k.written;
   }
 
-  -- Lines stay run if the writer's content and the world stay the same.
+  -- If the writer's content and the world stay the same, it remains true that the lines were run.
   ran_kept : (w v u : World) (xs : List (List ℕ)) (a b c : Option (List ℕ)) → Ran shown w xs v a b → Keeps b c → u ≡ v →
       Ran shown w xs u a c
   ran_kept w v u xs a b c h k same = subst (λ (x : World). Ran shown w xs x a c) (sym same)
@@ -269,33 +268,33 @@ module _ (shown : Shown) where
         h.3.ran,
       )
 
-  -- How far a script was run. The complete lines of the text that was read were run on a new gateway, and the text ends
-  -- with this partial line.
-  pub record Progress (config : Config) (input remaining : Option (List ℕ)) (partial : List ℕ) (count : ℕ) (now : World)
+  -- How far a script was run. The complete lines of the text that was read were run on a gateway that began in the
+  -- world `base`, and the text ends with this partial line.
+  pub record Progress (base : World) (input remaining : Option (List ℕ)) (partial : List ℕ) (count : ℕ) (now : World)
       (sent : ℕ) (old new : Option (List ℕ)) : Type 0 where
     pub text : List ℕ
     pub consumed : Consumes input remaining text
     pub lines : List (List ℕ)
     pub split : (ended : Bool) (more : List ℕ) → lines_of ended (text ++ more) ≡ lines ++ lines_after ended partial more
     pub counted : count ≡ length lines
-    pub ran : RanCounted shown (start_of config) lines now 0 sent old new
+    pub ran : RanCounted shown base lines now 0 sent old new
 
-  pub progress_start : (config : Config) (input : Option (List ℕ)) (partial : List ℕ) (count s : ℕ) (a : Option (List ℕ))
-      → partial ≡ [] → count ≡ 0 → s ≡ 0 → Progress config input input partial count (start_of config) s a a
-  progress_start config input partial count s a none zero_is unsent =
+  pub progress_start : (base : World) (input : Option (List ℕ)) (partial : List ℕ) (count s : ℕ) (a : Option (List ℕ))
+      → partial ≡ [] → count ≡ 0 → s ≡ 0 → Progress base input input partial count base s a a
+  progress_start base input partial count s a none zero_is unsent =
       record {
         text = [];
         consumed = Consumes-nil input;
         lines = [];
         split = λ ended more. ap (λ (l : List ℕ). lines_after ended l more) (sym none);
         counted = zero_is;
-        ran = counted_nothing (start_of config) 0 s a unsent;
+        ran = counted_nothing base 0 s a unsent;
       }
 
-  pub progress_bytes : (config : Config) (i x y : Option (List ℕ)) (partial bytes left : List ℕ) (n m : ℕ) (v u : World)
-      (s t : ℕ) (a b c : Option (List ℕ)) → Progress config i x partial n v s a b → Consumes x y bytes →
-      BytesRan shown n m partial bytes left v u s t b c (Ok tt) → Progress config i y left m u t a c
-  progress_bytes config i x y partial bytes left n m v u s t a b c p eaten h = record {
+  pub progress_bytes : (base : World) (i x y : Option (List ℕ)) (partial bytes left : List ℕ) (n m : ℕ) (v u : World)
+      (s t : ℕ) (a b c : Option (List ℕ)) → Progress base i x partial n v s a b → Consumes x y bytes →
+      BytesRan shown n m partial bytes left v u s t b c (Ok tt) → Progress base i y left m u t a c
+  progress_bytes base i x y partial bytes left n m v u s t a b c p eaten h = record {
     text = p.text ++ bytes;
     consumed = Consumes-trans i x y p.text bytes p.consumed eaten;
     lines = p.lines ++ h.0;
@@ -303,65 +302,65 @@ module _ (shown : Shown) where
         ap (λ (l : List (List ℕ)). p.lines ++ l) (h.1 ended more) ∙
         sym (append_assoc p.lines h.0 (lines_after ended left more));
     counted = omega (arith, h.2, p.counted, length-append p.lines h.0);
-    ran = counted_both (start_of config) v u p.lines h.0 0 s t a b c p.ran h.3;
+    ran = counted_both base v u p.lines h.0 0 s t a b c p.ran h.3;
   }
 
   -- If the input ends here, the partial line is its last line.
-  split_at_end : (config : Config) (i x : Option (List ℕ)) (partial : List ℕ) (n : ℕ) (v : World) (s : ℕ)
-      (a b : Option (List ℕ)) (ended : Bool) (p : Progress config i x partial n v s a b) →
+  split_at_end : (base : World) (i x : Option (List ℕ)) (partial : List ℕ) (n : ℕ) (v : World) (s : ℕ)
+      (a b : Option (List ℕ)) (ended : Bool) (p : Progress base i x partial n v s a b) →
       lines_of ended p.text ≡ p.lines ++ lines_after ended partial []
-  split_at_end config i x partial n v s a b ended p = ap (lines_after ended []) (sym (append-nil p.text)) ∙ p.split ended
+  split_at_end base i x partial n v s a b ended p = ap (lines_after ended []) (sym (append-nil p.text)) ∙ p.split ended
       []
 
   -- The lines that were run are the complete lines of the text that was read.
-  all_run : (config : Config) (i x : Option (List ℕ)) (partial : List ℕ) (n : ℕ) (v : World) (s : ℕ)
-      (a b : Option (List ℕ)) (p : Progress config i x partial n v s a b) → lines_of false p.text ≡ p.lines
-  all_run config i x partial n v s a b p = split_at_end config i x partial n v s a b false p ∙
+  all_run : (base : World) (i x : Option (List ℕ)) (partial : List ℕ) (n : ℕ) (v : World) (s : ℕ)
+      (a b : Option (List ℕ)) (p : Progress base i x partial n v s a b) → lines_of false p.text ≡ p.lines
+  all_run base i x partial n v s a b p = split_at_end base i x partial n v s a b false p ∙
       ap (λ (l : List (List ℕ)). p.lines ++ l) (unfinished partial) ∙ append-nil p.lines
 
   not_ended : {A : Type 0} → false ≡ true → A
   not_ended e = absurd (cc e)
 
   -- The lines that were run include all those that were complete before the last bytes were read.
-  run_in_bytes : (config : Config) (i x : Option (List ℕ)) (partial bytes : List ℕ) (n : ℕ) (v : World) (s : ℕ)
+  run_in_bytes : (base : World) (i x : Option (List ℕ)) (partial bytes : List ℕ) (n : ℕ) (v : World) (s : ℕ)
       (a b : Option (List ℕ)) (lines : List (List ℕ)) → length bytes ≤ 4096 →
-      (p : Progress config i x partial n v s a b) → RanBeforeMore (p.text ++ bytes) false (p.lines ++ lines)
-  run_in_bytes config i x partial bytes n v s a b lines few p = record {
+      (p : Progress base i x partial n v s a b) → RanBeforeMore (p.text ++ bytes) false (p.lines ++ lines)
+  run_in_bytes base i x partial bytes n v s a b lines few p = record {
     before = p.text;
     given = bytes;
     parts = refl;
     size = few;
     end_alone = not_ended;
     later = lines;
-    lines_are = ap (λ (l : List (List ℕ)). l ++ lines) (sym (all_run config i x partial n v s a b p));
+    lines_are = ap (λ (l : List (List ℕ)). l ++ lines) (sym (all_run base i x partial n v s a b p));
   }
 
   -- A line in the last bytes follows the lines that were run.
-  line_in_bytes : (config : Config) (i x : Option (List ℕ)) (partial bytes line : List ℕ) (n : ℕ) (v : World) (s : ℕ)
+  line_in_bytes : (base : World) (i x : Option (List ℕ)) (partial bytes line : List ℕ) (n : ℕ) (v : World) (s : ℕ)
       (a b : Option (List ℕ)) (lines others : List (List ℕ)) → lines_after false partial bytes ≡ lines ++ line ∷ others →
-      (p : Progress config i x partial n v s a b) → lines_of false (p.text ++ bytes) ≡ (p.lines ++ lines) ++ line ∷ others
-  line_in_bytes config i x partial bytes line n v s a b lines others is p = p.split false bytes ∙
+      (p : Progress base i x partial n v s a b) → lines_of false (p.text ++ bytes) ≡ (p.lines ++ lines) ++ line ∷ others
+  line_in_bytes base i x partial bytes line n v s a b lines others is p = p.split false bytes ∙
       ap (λ (l : List (List ℕ)). p.lines ++ l) is ∙ sym (append_assoc p.lines lines (line ∷ others))
 
-  pub progress_fault : (config : Config) (i x y : Option (List ℕ)) (partial bytes left : List ℕ) (n m : ℕ)
+  pub progress_fault : (base : World) (i x y : Option (List ℕ)) (partial bytes left : List ℕ) (n m : ℕ)
       (state : CoreState) (v u : World) (s t : ℕ) (a b c : Option (List ℕ)) (e : LineFault) →
-      Progress config i x partial n v s a b → Consumes x y bytes → length bytes ≤ 4096 →
-      BytesRan shown n m partial bytes left v u s t b c (Err e) → AllRan config shown i y state m t a c
+      Progress base i x partial n v s a b → Consumes x y bytes → length bytes ≤ 4096 →
+      BytesRan shown n m partial bytes left v u s t b c (Err e) → AllRan base shown i y state m t a c
       (Err (script_fault_of e))
-  progress_fault config i x y partial bytes left n m state v u s t a b c (faults.Bad k) p eaten few h = record {
+  progress_fault base i x y partial bytes left n m state v u s t a b c (faults.Bad k) p eaten few h = record {
     text = p.text ++ bytes;
     ended = false;
     read = record { consumed = Consumes-trans i x y p.text bytes p.consumed eaten; at_end = not_ended };
     lines = p.lines ++ h.0;
-    before_more = run_in_bytes config i x partial bytes n v s a b h.0 few p;
+    before_more = run_in_bytes base i x partial bytes n v s a b h.0 few p;
     bad = λ more none. bad_later p.lines h.0 (lines_after true partial (bytes ++ more))
         (lines_of true ((p.text ++ bytes) ++ more))
         (ap (lines_after true []) (append_assoc p.text bytes more) ∙ p.split true (bytes ++ more)) (h.1 more);
     number_is = omega (arith, h.2, p.counted, length-append p.lines h.0);
     last = u;
-    ran = ran_both (start_of config) v u p.lines h.0 a b c p.ran.ran h.3;
+    ran = ran_both base v u p.lines h.0 a b c p.ran.ran h.3;
   }
-  progress_fault config i x y partial bytes left n m state v u s t a b c faults.Write p eaten few h = record {
+  progress_fault base i x y partial bytes left n m state v u s t a b c faults.Write p eaten few h = record {
     line = h.1;
     now = h.4;
     held = h.5;
@@ -370,15 +369,15 @@ module _ (shown : Shown) where
       ended = false;
       read = record { consumed = Consumes-trans i x y p.text bytes p.consumed eaten; at_end = not_ended };
       lines = p.lines ++ h.0;
-      before_more = run_in_bytes config i x partial bytes n v s a b h.0 few p;
+      before_more = run_in_bytes base i x partial bytes n v s a b h.0 few p;
       others = h.2;
-      line_is = line_in_bytes config i x partial bytes h.1 n v s a b h.0 h.2 h.3 p;
-      ran = ran_both (start_of config) v h.4 p.lines h.0 a b h.5 p.ran.ran h.6;
+      line_is = line_in_bytes base i x partial bytes h.1 n v s a b h.0 h.2 h.3 p;
+      ran = ran_both base v h.4 p.lines h.0 a b h.5 p.ran.ran h.6;
     };
     last = u;
     cut = h.7;
   }
-  progress_fault config i x y partial bytes left n m state v u s t a b c faults.NoMemory p eaten few h = record {
+  progress_fault base i x y partial bytes left n m state v u s t a b c faults.NoMemory p eaten few h = record {
     line = h.1;
     now = u;
     up_to = record {
@@ -386,74 +385,74 @@ module _ (shown : Shown) where
       ended = false;
       read = record { consumed = Consumes-trans i x y p.text bytes p.consumed eaten; at_end = not_ended };
       lines = p.lines ++ h.0;
-      before_more = run_in_bytes config i x partial bytes n v s a b h.0 few p;
+      before_more = run_in_bytes base i x partial bytes n v s a b h.0 few p;
       others = h.2;
-      line_is = line_in_bytes config i x partial bytes h.1 n v s a b h.0 h.2 h.3 p;
-      ran = ran_both (start_of config) v u p.lines h.0 a b c p.ran.ran h.4;
+      line_is = line_in_bytes base i x partial bytes h.1 n v s a b h.0 h.2 h.3 p;
+      ran = ran_both base v u p.lines h.0 a b c p.ran.ran h.4;
     };
   }
 
   -- Reading failed, after all complete lines of the text were run.
-  pub progress_unread : (config : Config) (i x y : Option (List ℕ)) (partial : List ℕ) (n : ℕ) (v : World) (s : ℕ)
-      (a b : Option (List ℕ)) → Progress config i x partial n v s a b → Keeps x y → RanAllRead config shown i y a b
-  progress_unread config i x y partial n v s a b p same = record {
+  pub progress_unread : (base : World) (i x y : Option (List ℕ)) (partial : List ℕ) (n : ℕ) (v : World) (s : ℕ)
+      (a b : Option (List ℕ)) → Progress base i x partial n v s a b → Keeps x y → RanAllRead base shown i y a b
+  progress_unread base i x y partial n v s a b p same = record {
     text = p.text;
     read = record { consumed = Consumes-kept i x y p.text p.consumed same; at_end = not_ended };
     last = v;
-    ran = subst (λ (l : List (List ℕ)). Ran shown (start_of config) l v a b)
-        (sym (all_run config i x partial n v s a b p))
+    ran = subst (λ (l : List (List ℕ)). Ran shown base l v a b)
+        (sym (all_run base i x partial n v s a b p))
         p.ran.ran;
   }
 
   abbrev AtEnd : Option (List ℕ) → Option (List ℕ) → Type 0
   AtEnd x y = Keeps x y × IsAtEnd y
 
-  read_to_end : (config : Config) (i x y : Option (List ℕ)) (partial : List ℕ) (n : ℕ) (v : World) (s : ℕ)
-      (a b : Option (List ℕ)) → AtEnd x y → (p : Progress config i x partial n v s a b) → HasRead i y p.text true
-  read_to_end config i x y partial n v s a b end p =
+  read_to_end : (base : World) (i x y : Option (List ℕ)) (partial : List ℕ) (n : ℕ) (v : World) (s : ℕ)
+      (a b : Option (List ℕ)) → AtEnd x y → (p : Progress base i x partial n v s a b) → HasRead i y p.text true
+  read_to_end base i x y partial n v s a b end p =
       record { consumed = Consumes-kept i x y p.text p.consumed end.0; at_end = λ e. end.1 }
 
-  run_to_end : (config : Config) (i x : Option (List ℕ)) (partial : List ℕ) (n : ℕ) (v : World) (s : ℕ)
-      (a b : Option (List ℕ)) (p : Progress config i x partial n v s a b) → RanBeforeMore p.text true p.lines
-  run_to_end config i x partial n v s a b p = record {
+  run_to_end : (base : World) (i x : Option (List ℕ)) (partial : List ℕ) (n : ℕ) (v : World) (s : ℕ)
+      (a b : Option (List ℕ)) (p : Progress base i x partial n v s a b) → RanBeforeMore p.text true p.lines
+  run_to_end base i x partial n v s a b p = record {
     before = p.text;
     given = [];
     parts = sym (append-nil p.text);
     size = omega arith;
     end_alone = λ e. refl;
     later = [];
-    lines_are = sym (append-nil (lines_of false p.text) ∙ all_run config i x partial n v s a b p);
+    lines_are = sym (append-nil (lines_of false p.text) ∙ all_run base i x partial n v s a b p);
   }
 
-  last_of : (config : Config) (i x : Option (List ℕ)) (k : ℕ) (ks : List ℕ) (n : ℕ) (v : World) (s : ℕ)
-      (a b : Option (List ℕ)) (p : Progress config i x (k ∷ ks) n v s a b) →
+  last_of : (base : World) (i x : Option (List ℕ)) (k : ℕ) (ks : List ℕ) (n : ℕ) (v : World) (s : ℕ)
+      (a b : Option (List ℕ)) (p : Progress base i x (k ∷ ks) n v s a b) →
       lines_of true p.text ≡ p.lines ++ (k ∷ ks) ∷ []
-  last_of config i x k ks n v s a b p = split_at_end config i x (k ∷ ks) n v s a b true p ∙
+  last_of base i x k ks n v s a b p = split_at_end base i x (k ∷ ks) n v s a b true p ∙
       ap (λ (l : List (List ℕ)). p.lines ++ l) (last_line k ks)
 
-  line_end : (config : Config) (i x y : Option (List ℕ)) (k : ℕ) (ks : List ℕ) (n m : ℕ) (state : CoreState)
+  line_end : (base : World) (i x y : Option (List ℕ)) (k : ℕ) (ks : List ℕ) (n m : ℕ) (state : CoreState)
       (v u : World) (s t : ℕ) (a b c : Option (List ℕ)) (r : Result (Unit {0}) LineFault) →
-      Progress config i x (k ∷ ks) n v s a b → AtEnd x y → OnOk r (StandsFor state u) →
+      Progress base i x (k ∷ ks) n v s a b → AtEnd x y → OnOk r (StandsFor state u) →
       LineRan shown (n + 1) (k ∷ ks) v u s t b c r →
-      OnOk r (m ≡ n + 1) → AllRan config shown i y state m t a c (script_result r)
-  line_end config i x y k ks n m state v u s t a b c (Ok done) p end stands h more =
-      let split = last_of config i x k ks n v s a b p in (
+      OnOk r (m ≡ n + 1) → AllRan base shown i y state m t a c (script_result r)
+  line_end base i x y k ks n m state v u s t a b c (Ok done) p end stands h more =
+      let split = last_of base i x k ks n v s a b p in (
         p.text,
-        read_to_end config i x y (k ∷ ks) n v s a b end p,
+        read_to_end base i x y (k ∷ ks) n v s a b end p,
         record {
           last = u;
-          ran = subst (λ (l : List (List ℕ)). RanCounted shown (start_of config) l u 0 t a c) (sym split)
-              (counted_both (start_of config) v u p.lines ((k ∷ ks) ∷ []) 0 s t a b c p.ran h);
+          ran = subst (λ (l : List (List ℕ)). RanCounted shown base l u 0 t a c) (sym split)
+              (counted_both base v u p.lines ((k ∷ ks) ∷ []) 0 s t a b c p.ran h);
           stands = stands;
           lines = omega (arith, more, p.counted, length-append p.lines ((k ∷ ks) ∷ [])) ∙ ap length (sym split);
         },
       )
-  line_end config i x y k ks n m state v u s t a b c (Err (faults.Bad number)) p end stands h more = record {
+  line_end base i x y k ks n m state v u s t a b c (Err (faults.Bad number)) p end stands h more = record {
     text = p.text;
     ended = true;
-    read = read_to_end config i x y (k ∷ ks) n v s a b end p;
+    read = read_to_end base i x y (k ∷ ks) n v s a b end p;
     lines = p.lines;
-    before_more = run_to_end config i x (k ∷ ks) n v s a b p;
+    before_more = run_to_end base i x (k ∷ ks) n v s a b p;
     bad = λ more none. record {
       bad = k ∷ ks;
       others = [];
@@ -463,62 +462,62 @@ module _ (shown : Shown) where
     };
     number_is = omega (arith, h.0, p.counted);
     last = u;
-    ran = ran_kept (start_of config) v u p.lines a b c p.ran.ran h.2 h.3;
+    ran = ran_kept base v u p.lines a b c p.ran.ran h.2 h.3;
   }
-  line_end config i x y k ks n m state v u s t a b c (Err faults.Write) p end stands h more = record {
+  line_end base i x y k ks n m state v u s t a b c (Err faults.Write) p end stands h more = record {
     line = k ∷ ks;
     now = v;
     held = b;
     up_to = record {
       text = p.text;
       ended = true;
-      read = read_to_end config i x y (k ∷ ks) n v s a b end p;
+      read = read_to_end base i x y (k ∷ ks) n v s a b end p;
       lines = p.lines;
-      before_more = run_to_end config i x (k ∷ ks) n v s a b p;
+      before_more = run_to_end base i x (k ∷ ks) n v s a b p;
       others = [];
-      line_is = last_of config i x k ks n v s a b p;
+      line_is = last_of base i x k ks n v s a b p;
       ran = p.ran.ran;
     };
     last = u;
     cut = h;
   }
-  line_end config i x y k ks n m state v u s t a b c (Err faults.NoMemory) p end stands h more = record {
+  line_end base i x y k ks n m state v u s t a b c (Err faults.NoMemory) p end stands h more = record {
     line = k ∷ ks;
     now = u;
     up_to = record {
       text = p.text;
       ended = true;
-      read = read_to_end config i x y (k ∷ ks) n v s a b end p;
+      read = read_to_end base i x y (k ∷ ks) n v s a b end p;
       lines = p.lines;
-      before_more = run_to_end config i x (k ∷ ks) n v s a b p;
+      before_more = run_to_end base i x (k ∷ ks) n v s a b p;
       others = [];
-      line_is = last_of config i x k ks n v s a b p;
-      ran = ran_kept (start_of config) v u p.lines a b c p.ran.ran h.0 h.1;
+      line_is = last_of base i x k ks n v s a b p;
+      ran = ran_kept base v u p.lines a b c p.ran.ran h.0 h.1;
     };
   }
 
-  pub progress_end : (config : Config) (i x y : Option (List ℕ)) (partial : List ℕ) (n m : ℕ) (state : CoreState)
+  pub progress_end : (base : World) (i x y : Option (List ℕ)) (partial : List ℕ) (n m : ℕ) (state : CoreState)
       (v u : World) (s t : ℕ) (a b c : Option (List ℕ)) (r : Result (Unit {0}) LineFault) →
-      Progress config i x partial n v s a b → AtEnd x y → OnOk r (StandsFor state u) →
+      Progress base i x partial n v s a b → AtEnd x y → OnOk r (StandsFor state u) →
       Finishes shown n m partial v u s t b c r →
-      AllRan config shown i y state m t a c (script_result r)
-  progress_end config i x y [] n m state v u s t a b c r p end stands h =
-      let all = split_at_end config i x [] n v s a b true p ∙ ap (λ (l : List (List ℕ)). p.lines ++ l) no_line ∙
+      AllRan base shown i y state m t a c (script_result r)
+  progress_end base i x y [] n m state v u s t a b c r p end stands h =
+      let all = split_at_end base i x [] n v s a b true p ∙ ap (λ (l : List (List ℕ)). p.lines ++ l) no_line ∙
       append-nil p.lines in
       rw h.0 (
         p.text,
-        read_to_end config i x y [] n v s a b end p,
+        read_to_end base i x y [] n v s a b end p,
         record {
           last = u;
-          ran = subst (λ (n : ℕ). RanCounted shown (start_of config) (lines_of true p.text) u 0 n a c) (sym h.4)
-              (subst (λ (l : List (List ℕ)). RanCounted shown (start_of config) l u 0 s a c) (sym all)
-              (counted_kept (start_of config) v u p.lines 0 s a b c p.ran h.1 h.2));
+          ran = subst (λ (n : ℕ). RanCounted shown base (lines_of true p.text) u 0 n a c) (sym h.4)
+              (subst (λ (l : List (List ℕ)). RanCounted shown base l u 0 s a c) (sym all)
+              (counted_kept base v u p.lines 0 s a b c p.ran h.1 h.2));
           stands = subst (λ (o : Result (Unit {0}) LineFault). OnOk o (StandsFor state u)) h.0 stands;
           lines = h.3 ∙ p.counted ∙ ap length (sym all);
         },
       )
-  progress_end config i x y (k ∷ ks) n m state v u s t a b c r p end stands h =
-      line_end config i x y k ks n m state v u s t a b c r p end stands h.0 h.1
+  progress_end base i x y (k ∷ ks) n m state v u s t a b c r p end stands h =
+      line_end base i x y k ks n m state v u s t a b c r p end stands h.0 h.1
 
   -- The steps below use the index of a byte.
 
@@ -596,47 +595,47 @@ module _ (shown : Shown) where
   -- ## The progress of a runner
 
   -- The script was run this far, and the runner follows the resulting world.
-  abbrev pub Comes : Config → Option (List ℕ) → Option (List ℕ) → List ℕ → ℕ → LineRunner → ℕ → Option (List ℕ) →
+  abbrev pub Comes : World → Option (List ℕ) → Option (List ℕ) → List ℕ → ℕ → LineRunner → ℕ → Option (List ℕ) →
       Option (List ℕ) → Type 0
-  Comes config input remaining partial count kept s old new = (now : World) ×
-      Progress config input remaining partial count now s old new × Followed shown kept now
+  Comes base input remaining partial count kept s old new = (now : World) ×
+      Progress base input remaining partial count now s old new × Followed shown kept now
 
-  pub comes_start : (config : Config) (input : Option (List ℕ)) (partial : List ℕ) (count : ℕ) (kept : LineRunner) (s : ℕ)
-      (a : Option (List ℕ)) → partial ≡ [] → count ≡ 0 → s ≡ 0 → Followed shown kept (start_of config) →
-      Comes config input input partial count kept s a a
-  comes_start config input partial count kept s a none zero_is unsent stands =
-      (start_of config, progress_start config input partial count s a none zero_is unsent, stands)
+  pub comes_start : (base : World) (input : Option (List ℕ)) (partial : List ℕ) (count : ℕ) (kept : LineRunner) (s : ℕ)
+      (a : Option (List ℕ)) → partial ≡ [] → count ≡ 0 → s ≡ 0 → Followed shown kept base →
+      Comes base input input partial count kept s a a
+  comes_start base input partial count kept s a none zero_is unsent stands =
+      (base, progress_start base input partial count s a none zero_is unsent, stands)
 
-  pub comes_bytes : (config : Config) (i x y : Option (List ℕ)) (partial bytes left : List ℕ) (n m : ℕ)
-      (kept new : LineRunner) (s t : ℕ) (a b c : Option (List ℕ)) → Comes config i x partial n kept s a b →
-      Consumes x y bytes → HasRun n m partial bytes left kept new s t b c (Ok tt) → Comes config i y left m new t a c
-  comes_bytes config i x y partial bytes left n m kept new s t a b c come eaten step =
+  pub comes_bytes : (base : World) (i x y : Option (List ℕ)) (partial bytes left : List ℕ) (n m : ℕ)
+      (kept new : LineRunner) (s t : ℕ) (a b c : Option (List ℕ)) → Comes base i x partial n kept s a b →
+      Consumes x y bytes → HasRun n m partial bytes left kept new s t b c (Ok tt) → Comes base i y left m new t a c
+  comes_bytes base i x y partial bytes left n m kept new s t a b c come eaten step =
       let (now, p, stands) = come in
       let (after, h, last) = step now stands in
-      (after, progress_bytes config i x y partial bytes left n m now after s t a b c p eaten h, last)
+      (after, progress_bytes base i x y partial bytes left n m now after s t a b c p eaten h, last)
 
-  pub comes_unread : (config : Config) (i x y : Option (List ℕ)) (partial : List ℕ) (n : ℕ) (kept : LineRunner) (s : ℕ)
-      (a b : Option (List ℕ)) → Comes config i x partial n kept s a b → Keeps x y → RanAllRead config shown i y a b
-  comes_unread config i x y partial n kept s a b come same =
+  pub comes_unread : (base : World) (i x y : Option (List ℕ)) (partial : List ℕ) (n : ℕ) (kept : LineRunner) (s : ℕ)
+      (a b : Option (List ℕ)) → Comes base i x partial n kept s a b → Keeps x y → RanAllRead base shown i y a b
+  comes_unread base i x y partial n kept s a b come same =
       let (now, p, stands) = come in
-      progress_unread config i x y partial n now s a b p same
+      progress_unread base i x y partial n now s a b p same
 
-  pub comes_fault : (config : Config) (i x y : Option (List ℕ)) (partial bytes left : List ℕ) (n m : ℕ)
+  pub comes_fault : (base : World) (i x y : Option (List ℕ)) (partial bytes left : List ℕ) (n m : ℕ)
       (kept new : LineRunner) (s t : ℕ) (a b c : Option (List ℕ)) (e : LineFault) →
-      Comes config i x partial n kept s a b →
+      Comes base i x partial n kept s a b →
       Consumes x y bytes → length bytes ≤ 4096 → HasRun n m partial bytes left kept new s t b c (Err e) →
-      AllRan config shown i y new.core.state m t a c (Err (script_fault_of e))
-  comes_fault config i x y partial bytes left n m kept new s t a b c e come eaten few step =
+      AllRan base shown i y new.core.state m t a c (Err (script_fault_of e))
+  comes_fault base i x y partial bytes left n m kept new s t a b c e come eaten few step =
       let (now, p, stands) = come in
       let (next, h, last) = step now stands in
-      progress_fault config i x y partial bytes left n m new.core.state now next s t a b c e p eaten few h
+      progress_fault base i x y partial bytes left n m new.core.state now next s t a b c e p eaten few h
 
-  pub comes_end : (config : Config) (i x y : Option (List ℕ)) (partial : List ℕ) (n m : ℕ) (kept new : LineRunner)
-      (s t : ℕ) (a b c : Option (List ℕ)) (r : Result (Unit {0}) LineFault) → Comes config i x partial n kept s a b →
+  pub comes_end : (base : World) (i x y : Option (List ℕ)) (partial : List ℕ) (n m : ℕ) (kept new : LineRunner)
+      (s t : ℕ) (a b c : Option (List ℕ)) (r : Result (Unit {0}) LineFault) → Comes base i x partial n kept s a b →
       Keeps x y × IsAtEnd y → Leaves kept new r (λ w next. Finishes shown n m partial w next s t b c r) →
-      AllRan config shown i y new.core.state m t a c (script_result r)
-  comes_end config i x y partial n m kept new s t a b c r come end step =
+      AllRan base shown i y new.core.state m t a c (script_result r)
+  comes_end base i x y partial n m kept new s t a b c r come end step =
       let (now, p, stands) = come in
       let (next, h, last) = step now stands in
-      progress_end config i x y partial n m new.core.state now next s t a b c r p end
+      progress_end base i x y partial n m new.core.state now next s t a b c r p end
       (on_ok r (λ (f : Followed shown new next). f.stands) last) h

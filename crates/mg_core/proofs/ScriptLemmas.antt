@@ -3,7 +3,6 @@ use Rattle.std.proofs.Common.{◌≡◌, ℕ, List, [], Option, Result, Ok, Err,
 use Rattle.std.proofs.KnownBytes.{Consumes-nil}
 use Rattle.std.proofs.lemmas.List.{append-nil}
 use Rattle.mg_lines.specs.Lines.{lines_after, lines_of}
-use Rattle.mg_engine.specs.declared.config.Config.{Config}
 use Rattle.mg_engine.specs.declared.fault.StartFault.{StartFault}
 use Rattle.mg_engine.specs.declared.fault.StartFault.TheVariants as starts
 use Rattle.mg_core.specs.declared.counts.Counts.{Counts}
@@ -17,15 +16,15 @@ use Rattle.mg_core.specs.Run.{RanToFault, ScriptRan, Stops}
 use Rattle.mg_core.specs.Script.{events_of}
 use Rattle.mg_core.specs.aids.Faults.{RanAllRead, RanToBadLine, RanToCutLine, RanToUnrunLine}
 use Rattle.mg_core.specs.aids.Steps.{AllRan, run_fault_at_start, run_fault_of}
-use Rattle.mg_core.specs.World.{World, capped, counts_of, start_of}
+use Rattle.mg_core.specs.World.{World, capped, counts_of}
 use Rattle.mg_core.specs.aids.Stands.{StandsFor}
 use Rattle.mg_core.proofs.LineLemmas.{no_text, same_appends, sent_at_once}
 
 -- ## The faults of a run
 
-module _ (config : Config) (shown : Shown) (input rest old new : Option (List ℕ)) where
-  at_bad_line : (number : ℕ) → RanToBadLine config shown input rest number old new →
-      RanToFault config shown input rest old new (ends.Script number)
+module _ (base : World) (shown : Shown) (input rest old new : Option (List ℕ)) where
+  at_bad_line : (number : ℕ) → RanToBadLine base shown input rest number old new →
+      RanToFault base shown input rest old new (ends.Script number)
   at_bad_line number h = record {
     text = h.text;
     ended = h.ended;
@@ -38,7 +37,7 @@ module _ (config : Config) (shown : Shown) (input rest old new : Option (List �
     stops = (h.number_is, refl, h.bad);
   }
 
-  all_read : RanAllRead config shown input rest old new → RanToFault config shown input rest old new ends.Read
+  all_read : RanAllRead base shown input rest old new → RanToFault base shown input rest old new ends.Read
   all_read h = record {
     text = h.text;
     ended = false;
@@ -59,7 +58,7 @@ module _ (config : Config) (shown : Shown) (input rest old new : Option (List �
     stops = (refl, refl, refl);
   }
 
-  at_cut_line : RanToCutLine config shown input rest old new → RanToFault config shown input rest old new ends.Write
+  at_cut_line : RanToCutLine base shown input rest old new → RanToFault base shown input rest old new ends.Write
   at_cut_line h = record {
     text = h.up_to.text;
     ended = h.up_to.ended;
@@ -93,8 +92,8 @@ module _ (config : Config) (shown : Shown) (input rest old new : Option (List �
     );
   }
 
-  at_unrun_line : RanToUnrunLine config shown input rest old new →
-      RanToFault config shown input rest old new ends.NoMemory
+  at_unrun_line : RanToUnrunLine base shown input rest old new →
+      RanToFault base shown input rest old new ends.NoMemory
   at_unrun_line h = record {
     text = h.up_to.text;
     ended = h.up_to.ended;
@@ -108,10 +107,10 @@ module _ (config : Config) (shown : Shown) (input rest old new : Option (List �
   }
 
 -- If the gateway could not be started, nothing was read, run or written.
-nothing_ran : (config : Config) (shown : Shown) (input a : Option (List ℕ)) (fault : RunFault) →
-    Stops fault shown [] false [] (start_of config) a a → RanToFault config shown input input a a fault
+nothing_ran : (base : World) (shown : Shown) (input a : Option (List ℕ)) (fault : RunFault) →
+    Stops fault shown [] false [] base a a → RanToFault base shown input input a a fault
 unfolding events_of lines_after
-nothing_ran config shown input a fault stops = record {
+nothing_ran base shown input a fault stops = record {
   text = [];
   ended = false;
   read = record { consumed = Consumes-nil input; at_end = λ e. absurd (cc e) };
@@ -125,7 +124,7 @@ nothing_ran config shown input a fault stops = record {
     later = [];
     lines_are = refl;
   };
-  now = start_of config;
+  now = base;
   held = a;
   ran = record {
     events = [];
@@ -133,26 +132,26 @@ nothing_ran config shown input a fault stops = record {
     text = [];
     are = refl;
     run = (refl, refl);
-    is_text = no_text shown (start_of config);
+    is_text = no_text shown base;
     written = same_appends a;
   };
   stops = stops;
 }
 
-pub not_started : (config : Config) (shown : Shown) (input a : Option (List ℕ)) (fault : StartFault) →
-    ScriptRan config shown input input a a (Err (run_fault_at_start fault))
-not_started config shown input a starts.BadConfig = nothing_ran config shown input a ends.BadConfig (refl, refl, refl)
-not_started config shown input a starts.NoMemory =
-    nothing_ran config shown input a ends.NoMemory (refl, inr (refl, refl))
+pub not_started : (base : World) (shown : Shown) (input a : Option (List ℕ)) (fault : StartFault) →
+    ScriptRan base shown input input a a (Err (run_fault_at_start fault))
+not_started base shown input a starts.BadConfig = nothing_ran base shown input a ends.BadConfig (refl, refl, refl)
+not_started base shown input a starts.NoMemory =
+    nothing_ran base shown input a ends.NoMemory (refl, inr (refl, refl))
 
-pub script_fault : (config : Config) (shown : Shown) (input rest : Option (List ℕ)) (state : CoreState) (count n : ℕ)
-    (a b : Option (List ℕ)) (fault : ScriptFault) → AllRan config shown input rest state count n a b (Err fault) →
-    ScriptRan config shown input rest a b (Err (run_fault_of fault))
-script_fault config shown input rest state count n a b (faults.Bad number) h =
-    at_bad_line config shown input rest a b number h
-script_fault config shown input rest state count n a b faults.Read h = all_read config shown input rest a b h
-script_fault config shown input rest state count n a b faults.Write h = at_cut_line config shown input rest a b h
-script_fault config shown input rest state count n a b faults.NoMemory h = at_unrun_line config shown input rest a b h
+pub script_fault : (base : World) (shown : Shown) (input rest : Option (List ℕ)) (state : CoreState) (count n : ℕ)
+    (a b : Option (List ℕ)) (fault : ScriptFault) → AllRan base shown input rest state count n a b (Err fault) →
+    ScriptRan base shown input rest a b (Err (run_fault_of fault))
+script_fault base shown input rest state count n a b (faults.Bad number) h =
+    at_bad_line base shown input rest a b number h
+script_fault base shown input rest state count n a b faults.Read h = all_read base shown input rest a b h
+script_fault base shown input rest state count n a b faults.Write h = at_cut_line base shown input rest a b h
+script_fault base shown input rest state count n a b faults.NoMemory h = at_unrun_line base shown input rest a b h
 
 -- A fault of a script is never a fault of the configuration.
 pub not_bad : {A : Type 0} (r : Result A RunFault) (e : RunFault) (fault : ScriptFault) → r ≡ Err e → e ≡ run_fault_of fault →
@@ -162,13 +161,13 @@ not_bad r e faults.Read is from bad = cc (is, from, bad)
 not_bad r e faults.Write is from bad = cc (is, from, bad)
 not_bad r e faults.NoMemory is from bad = cc (is, from, bad)
 
-pub script_done : (config : Config) (shown : Shown) (input rest : Option (List ℕ)) (state : CoreState) (count n : ℕ)
+pub script_done : (base : World) (shown : Shown) (input rest : Option (List ℕ)) (state : CoreState) (count n : ℕ)
     (counts : Counts)
-    (a b : Option (List ℕ)) → AllRan config shown input rest state count n a b (Ok tt) → counts.lines ≡ count →
+    (a b : Option (List ℕ)) → AllRan base shown input rest state count n a b (Ok tt) → counts.lines ≡ count →
     counts.sent ≡ n → ((w : World) → StandsFor state w →
     record counts { lines = 0; sent = 0; failed = 0 } ≡ counts_of w.tally) →
-    ScriptRan config shown input rest a b (Ok counts)
-script_done config shown input rest state count n counts a b h lines sent counted =
+    ScriptRan base shown input rest a b (Ok counts)
+script_done base shown input rest state count n counts a b h lines sent counted =
     let all = h.2 in (
       h.0,
       h.1,

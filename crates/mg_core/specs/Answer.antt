@@ -127,7 +127,7 @@ answered source TooMany w = refused NotServed w
 answered source (OtherVersion n) w = refused Version w
 answered source NoMessage w = refused Syntax w
 
--- According to its reading, a datagram gets this answer (or none) in the world `w`, and leads to the next world.
+-- In the world `w`, a datagram gets this answer (or none), and leads to the next world. Its reading determines both.
 abbrev pub Answers : List ℕ → World → Option (List ℕ) → World → Type 0
 Answers source w answer next =
     (reading : MessageReading) × IsMessageReading source reading

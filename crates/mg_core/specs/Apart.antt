@@ -4,7 +4,6 @@ use Rattle.std.specs.Prelude.{◌≡◌, ℕ, ◌==◌, List, [], ◌∷◌, ◌
 use Rattle.std.specs.List.{AllByRecursion}
 use Rattle.mg_kept.specs.KeptReplies.{KeptReply}
 use Rattle.mg_rooms.specs.Limits.{slot_port}
-use Rattle.mg_engine.specs.declared.config.Config.{Config}
 use Rattle.mg_engine.specs.declared.datagram.Datagram.{Datagram}
 use Rattle.mg_words.specs.declared.peer.Peer.{Peer}
 use Rattle.mg_engine.specs.Apart as engine
@@ -18,7 +17,7 @@ use Rattle.mg_core.specs.declared.state.CoreState.{CoreState}
 use Rattle.mg_core.specs.Headline.{HasHistory}
 use Rattle.mg_core.specs.Run.{RanToEnd}
 use Rattle.mg_core.specs.Step.{Sent, Packet, Step, Run}
-use Rattle.mg_core.specs.World.{World, packets_of, start_of}
+use Rattle.mg_core.specs.World.{World, packets_of}
 
 -- ## Agreement
 
@@ -26,9 +25,8 @@ use Rattle.mg_core.specs.World.{World, packets_of, start_of}
 abbrev pub key_of : KeptReply → List ℕ × ℕ
 key_of reply = (reply.sender, reply.number)
 
--- Two worlds agree outside some terminations if their gateways do and they keep replies to the same
--- requests. The counts of events may differ, and so may the numbers of received packets in these
--- replies.
+-- Two worlds agree outside some terminations if their gateways do and they keep replies to the same requests, in the
+-- same order. The counts of events may differ, and so may the texts of these replies.
 pub record AgreeOutside (some : List ℕ) (a b : World) : Type 0 where
   pub gateway : engine.AgreeOutside some a.gateway b.gateway
   pub replies : map key_of a.replies ≡ map key_of b.replies
@@ -104,19 +102,21 @@ UnheardInHistories =
 
 -- The first events lead to the world `w`, and a tick follows. The first events, this tick and everything after it send
 -- these datagrams.
-abbrev pub HasTickAfter : Config → List Event → List Sent → World → Type 0
-HasTickAfter config events sent w =
-    (before after : List Sent) × Run (start_of config) events before w
+abbrev pub HasTickAfter : (base : World) → List Event → List Sent → World → Type 0
+HasTickAfter base events sent w =
+    (before after : List Sent) × Run base events before w
     × (sent ≡ before ++ (map Packet (packets_of w) ++ after))
 
--- `NextTickIsSame` holds in each tick of two scripts that were run to the end, whatever comes after the tick.
+-- Suppose two gateways began with the same base, and ran two scripts to the end. Until a tick in each script, their
+-- events differ only in RTP datagrams at the ports of these terminations. Then `NextTickIsSame` holds in that tick,
+-- whatever comes after it.
 abbrev pub UnheardInScripts : Type 0
 UnheardInScripts =
-    (some : List ℕ) (port : ℕ) (config : Config) (xs : List Happening) (rest others : List Event)
+    (some : List ℕ) (port : ℕ) (base : World) (xs : List Happening) (rest others : List Event)
     (first second : Shown) (one other : List ℕ) (counts more : Counts)
-    (old new was is : Option (List ℕ)) (a : RanToEnd config first one counts old new)
-    (b : RanToEnd config second other more was is)
-    → DifferAtPortsOf some (start_of config) xs
+    (old new was is : Option (List ℕ)) (a : RanToEnd base first one counts old new)
+    (b : RanToEnd base second other more was is)
+    → DifferAtPortsOf some base xs
     → a.ran.events ≡ to_first xs ++ (Tick ∷ rest) → b.ran.events ≡ to_second xs ++ (Tick ∷ others)
-    → (v w : World) × HasTickAfter config (to_first xs) a.ran.sent v
-    × HasTickAfter config (to_second xs) b.ran.sent w × NextTickIsSame some port v w
+    → (v w : World) × HasTickAfter base (to_first xs) a.ran.sent v
+    × HasTickAfter base (to_second xs) b.ran.sent w × NextTickIsSame some port v w

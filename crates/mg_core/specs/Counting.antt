@@ -18,8 +18,8 @@ is_tick Tick = true
 is_tick _ = false
 
 -- Since the world `base`, the counts of control datagrams, RTP datagrams and ticks have grown by the numbers of these
--- events, and the sum of the counts of outcomes by the number of RTP datagrams. In a new gateway's world, all counts are
--- 0.
+-- events. The sum of the counts of outcomes has grown by the number of RTP datagrams. In a new gateway's world, all
+-- counts are 0.
 pub record CountsOf (base : World) (events : List Event) (w : World) : Type 0 where
   pub control : w.tally.control ≡ base.tally.control + count_by is_control events
   pub media : w.tally.media ≡ base.tally.media + count_by is_media events

@@ -30,7 +30,7 @@ abbrev pub is_oversized : Event → Bool
 is_oversized (Control source bytes) = nat_lt message_limit (length bytes)
 is_oversized _ = false
 
--- The events without RTP datagrams and oversized control datagrams. The others can have lasting effects.
+-- The events that can have lasting effects: all except RTP datagrams and oversized control datagrams.
 abbrev pub lasting : List Event → List Event
 lasting events = filter (λ e. not (is_media e) && not (is_oversized e)) events
 
@@ -42,9 +42,9 @@ RtpChangesSpeechOnly =
     → AgreeExceptReceived a b → Run a events s x → Run b (lasting events) t y
     → AgreeExceptReceived x y
 
--- Suppose two gateways began with bases that agree except for what was received, and had the same events, but only one
--- of them received RTP datagrams and oversized control datagrams. Then their worlds agree except for what was received. Their play lists also have the
--- same depths, because only commands set a depth.
+-- Suppose two gateways began with bases that agree except for what was received. Both had the same events, except that
+-- only one of them received the RTP datagrams and the oversized control datagrams. Then their worlds agree except for
+-- what was received. Their play lists also have the same depths, because only commands set a depth.
 abbrev pub RtpChangesSpeechOnlyInHistories : Type 0
 RtpChangesSpeechOnlyInHistories =
     (a b : World) (events : List Event) (s t : List Sent) (v w : World)

@@ -1,11 +1,10 @@
 -- Between two control datagrams or ticks, the order of RTP datagrams at different ports does not matter.
 use Rattle.std.specs.Prelude.{◌≡◌, ◌==◌, not, ℕ, Bool, false, List, Option, filter}
-use Rattle.mg_engine.specs.declared.config.Config.{Config}
 use Rattle.mg_core.specs.declared.counts.Counts.{Counts}
 use Rattle.mg_core.specs.declared.event.Event.{Event}
 use Rattle.mg_core.specs.declared.event.Event.TheVariants.{Media}
 use Rattle.mg_core.specs.declared.shown.Shown.{Shown}
-use Rattle.mg_core.specs.Base.{IsBase, IsStart}
+use Rattle.mg_core.specs.Base.{IsBase}
 use Rattle.mg_core.specs.Run.{RanToEnd}
 use Rattle.mg_core.specs.Step.{Sent, Run}
 use Rattle.mg_core.specs.World.{World}
@@ -32,13 +31,14 @@ PortOrderIsIrrelevant =
     → IsBase base → AreSameToEachPort a b
     → Run base a s v → Run base b t w → (s ≡ t) × (v ≡ w)
 
--- Suppose two scripts were run to the end in either form of output, and their events are the same to each port. Then
+-- Suppose two gateways began with the same base, ran two scripts to the end in either form of output, and their
+-- events are the same to each port. Then
 -- both runs write the same datagrams, and end in the same world.
 abbrev pub PortOrderInScripts : Type 0
 PortOrderInScripts =
-    (config : Config) (first second : Shown) (one other : List ℕ) (counts more : Counts)
-    (old new was is : Option (List ℕ)) → IsStart config
-    → (a : RanToEnd config first one counts old new)
-    (b : RanToEnd config second other more was is)
+    (base : World) (first second : Shown) (one other : List ℕ) (counts more : Counts)
+    (old new was is : Option (List ℕ)) → IsBase base
+    → (a : RanToEnd base first one counts old new)
+    (b : RanToEnd base second other more was is)
     → AreSameToEachPort a.ran.events b.ran.events
     → (a.ran.sent ≡ b.ran.sent) × (a.last ≡ b.last)

@@ -19,8 +19,8 @@ AgreementHasSameFlows =
 
 -- ## Reports
 
--- Events run one after another, and the text reports the changes of each event. The text is that of `ReportsChanges`
--- without the lines for the datagrams that are sent.
+-- Events run one after another, and the text reports the changes that each event makes. The text is that of
+-- `ReportsChanges` without the lines for the datagrams that are sent.
 abbrev pub ReportsOnlyChanges : World → List Event → List ℕ → World → Type 0
 ReportsOnlyChanges w [] text last = (text ≡ []) × (last ≡ w)
 ReportsOnlyChanges w (event ∷ events) text last =

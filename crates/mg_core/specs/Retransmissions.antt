@@ -130,7 +130,7 @@ IsNotRequested sender number (Control source bytes) =
     → list_any (is_request_for sender number (text_of bytes m.sender)) (items_of m.body) ≡ false
 IsNotRequested sender number _ = Unit {0}
 
--- After a reply was dropped, its request is run again if it is retransmitted.
+-- After a reply was dropped, its request is run again the first time that it is retransmitted.
 abbrev pub DroppedRequestsAreRerun : Type 0
 DroppedRequestsAreRerun =
     (sender : List ℕ) (number : ℕ) (w last : World) (events : List Event) (sent : List Sent)

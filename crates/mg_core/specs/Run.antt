@@ -4,7 +4,6 @@ use Rattle.std.specs.Prelude.{length, flat_map, Option, Some, None, Result, Ok, 
 use Rattle.std.specs.Prelude.{decimal}
 use Rattle.std.specs.Io.KnownBytes.{Appends, Consumes, IsAtEnd}
 use Rattle.hex.specs.Hex.{encode_lower}
-use Rattle.mg_engine.specs.declared.config.Config.{Config}
 use Rattle.mg_engine.specs.declared.datagram.Datagram.{Datagram}
 use Rattle.mg_words.specs.declared.peer.Peer.{Peer}
 use Rattle.mg_core.specs.declared.counts.Counts.{Counts}
@@ -13,7 +12,7 @@ use Rattle.mg_core.specs.declared.fault.RunFault.{RunFault}
 use Rattle.mg_core.specs.declared.fault.RunFault.TheVariants as faults
 use Rattle.mg_core.specs.declared.shown.Shown.{Shown}
 use Rattle.mg_core.specs.declared.shown.Shown.TheVariants as shows
-use Rattle.mg_core.specs.World.{World, start_of, capped, counts_of}
+use Rattle.mg_core.specs.World.{World, capped, counts_of}
 use Rattle.mg_core.specs.Peer.{peer_text}
 use Rattle.mg_core.specs.Step.{Sent, Reply, Packet, Step, Run}
 use Rattle.mg_core.specs.Flows.{changes_by}
@@ -95,13 +94,13 @@ pub record RanBeforeMore (text : List ℕ) (ended : Bool) (lines : List (List �
   pub later : List (List ℕ)
   pub lines_are : lines ≡ lines_of false before ++ later
 
--- ## The result of running a script on a new gateway
+-- ## The result of running a script
 
 -- The whole script was run, and its lines, its events and the datagrams sent were counted.
-pub record RanToEnd (config : Config) (shown : Shown) (script : List ℕ) (counts : Counts)
+pub record RanToEnd (base : World) (shown : Shown) (script : List ℕ) (counts : Counts)
     (old new : Option (List ℕ)) : Type 0 where
   pub last : World
-  pub ran : Ran shown (start_of config) (lines_of true script) last old new
+  pub ran : Ran shown base (lines_of true script) last old new
   pub lines : counts.lines ≡ length (lines_of true script)
   pub sent : counts.sent ≡ capped (length ran.sent)
   pub counted : record counts { lines = 0; sent = 0; failed = 0 } ≡ counts_of last.tally
@@ -143,7 +142,7 @@ Stops faults.BadConfig shown text ended lines w held new =
     (new ≡ held) × (text ≡ []) × (lines ≡ [])
 
 -- A run stopped at a fault. Before that, it ran these lines of the text completely.
-pub record RanToFault (config : Config) (shown : Shown) (input rest old new : Option (List ℕ))
+pub record RanToFault (base : World) (shown : Shown) (input rest old new : Option (List ℕ))
     (fault : RunFault) : Type 0 where
   pub text : List ℕ
   pub ended : Bool
@@ -152,14 +151,14 @@ pub record RanToFault (config : Config) (shown : Shown) (input rest old new : Op
   pub before_more : RanBeforeMore text ended lines
   pub now : World
   pub held : Option (List ℕ)
-  pub ran : Ran shown (start_of config) lines now old held
+  pub ran : Ran shown base lines now old held
   pub stops : Stops fault shown text ended lines now held new
 
 -- The result of a run: how far the input was read, the lines that were run, and the text that was written for them.
-abbrev pub ScriptRan : Config → Shown → (input rest old new : Option (List ℕ))
+abbrev pub ScriptRan : (base : World) → Shown → (input rest old new : Option (List ℕ))
     → Result Counts RunFault → Type 0
-ScriptRan config shown input rest old new (Ok counts) =
+ScriptRan base shown input rest old new (Ok counts) =
     (script : List ℕ) × HasRead input rest script true
-    × RanToEnd config shown script counts old new
-ScriptRan config shown input rest old new (Err fault) =
-    RanToFault config shown input rest old new fault
+    × RanToEnd base shown script counts old new
+ScriptRan base shown input rest old new (Err fault) =
+    RanToFault base shown input rest old new fault

@@ -54,7 +54,8 @@ ok_of (Err e) = None
 abbrev pub datagram : List ℕ → Option (List ℕ)
 datagram bytes = if nat_le (length bytes) 65535 then Some bytes else None
 
--- The first word of a line determines how the bytes of its datagram are spelled.
+-- The spelling that the first word of a line selects for the bytes of a control datagram, or `None` if the word selects
+-- none.
 unfoldable pub spelling_of : List ℕ → Option Spelling
 spelling_of key =
     if bytes_eq key (codes "say") then Some Text

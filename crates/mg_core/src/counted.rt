@@ -30,7 +30,7 @@ pub fn count_of(digits: &[u8]) -> Option<u64>
     Some(value)
 }
 
-/// Returns the number in a line such as `ticks 12`, or `None` for any other line. The number has no leading zeros.
+/// Returns the number in a line such as `ticks 12`, or `None` for any other line. The number doesn't begin with 0.
 pub(crate) fn ticks_in(line: &[u8]) -> Option<u64>
     ensures value { result ≡ ticks_in line.now }
 {
@@ -51,7 +51,7 @@ pub(crate) fn is_mark(line: &[u8]) -> bool
 /// The maximum length of a line with a number of ticks, in bytes.
 const LINE_ROOM: usize = 27;
 
-/// A line with a number of ticks, with its line feed.
+/// A line with a number of ticks, including its line feed.
 pub type TicksLine = ArrayVec<u8, LINE_ROOM>;
 
 /// Returns the line with which a gateway appends ticks to its journal.

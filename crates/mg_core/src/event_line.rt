@@ -11,7 +11,7 @@ use mg_reply::{Bytes, PORT_LIMIT, write_port};
 use std::alloc::{AllocError, Global};
 use std::marker::Model;
 
-/// The maximum number of hexadecimal digits in a datagram.
+/// The maximum number of hexadecimal digits for the bytes of a datagram.
 const DIGITS_ROOM: usize = 2 * DATAGRAM_LIMIT;
 
 /// The maximum length, in bytes, of the text around a datagram's digits: a peer, a space and a line feed.

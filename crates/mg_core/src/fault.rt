@@ -3,7 +3,8 @@ use mg_engine::StartFault;
 use mg_lines::{ReadFailed, WriteFailed};
 use thiserror::Error;
 
-/// Memory ran out while a control datagram was read. Only the last answer has changed: it is now empty.
+/// Memory ran out while a control datagram was read. The core is unchanged, except that `Core::control` empties its
+/// last answer.
 #[derive(Clone, Copy, Debug, PartialEq, Eq, Error)]
 #[error("out of memory")]
 pub struct NoMemory;

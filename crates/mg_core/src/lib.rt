@@ -60,7 +60,7 @@ pub use crate::oversized::is_oversized;
 pub use crate::parsed::Parsed;
 pub use crate::peer::peer_of;
 pub use crate::resuming::{resume, resume_from};
-pub use crate::running::run;
+pub use crate::running::{run, run_from};
 pub use crate::script::DATAGRAM_LIMIT;
 pub use crate::shown::Shown;
 pub use crate::stopped::Stopped;

@@ -1,12 +1,10 @@
-ghost use Rattle.std.specs.Prelude.{◌≡◌, ◌+◌, ◌↔◌, [], Some, length, IfOk, OnOk};
-ghost use Rattle.mg_engine.specs.declared.config.Config.{Config};
-ghost use Rattle.mg_engine.specs.Config.{IsValidConfig};
+ghost use Rattle.std.specs.Prelude.{◌≡◌, ◌+◌, [], Some, length, IfOk};
 ghost use Rattle.mg_words.specs.Leads.{Leads};
 ghost use Rattle.mg_core.specs.Step.{Step};
 ghost use Rattle.mg_core.specs.aids.Steps.{AreKeptListeners, ChangesWritten, EventRan, Follows, LeadsOn, LineRan};
 ghost use Rattle.mg_core.specs.declared.shown.Shown.{Shown};
 ghost use Rattle.mg_core.specs.declared.line_runner.TheConstants.{OUTPUT_LIMIT};
-ghost use Rattle.mg_core.specs.World.{World, start_of};
+ghost use Rattle.mg_core.specs.World.{World};
 ghost use Rattle.mg_core.specs.aids.Stands.{StandsFor};
 
 use crate::answer::Answer;
@@ -17,7 +15,7 @@ use crate::output::{LINE_START, push_answer, push_packets};
 use crate::script::{ParseFault, event_of};
 use crate::shown::Shown;
 use crate::watched::Watched;
-use mg_engine::{Config, Peer, StartFault};
+use mg_engine::Peer;
 use mg_lines::write_whole;
 use mg_reply::Bytes;
 use std::alloc::{AllocError, Global};
@@ -27,29 +25,17 @@ use std::io::Write;
 /// an escape. The lines for all packets of a tick need less room.
 const OUTPUT_LIMIT: usize = LINE_START + 2 * ANSWER_LIMIT;
 
-/// Creates the store of terminations if changes are shown. The gateway has no terminations yet.
-fn watched_for(alloc: Global, shown: Shown) -> Result<Option<Watched>, AllocError>
-    ensures value { (config : Config) → IfOk result (λ watched. AreKeptListeners shown watched (start_of config)) }
+/// Creates the store of a core's terminations if changes are shown.
+fn watched_for(alloc: Global, core: &Core, shown: Shown) -> Result<Option<Watched>, AllocError>
+    ensures value { (w : World) → StandsFor core.now.state w → IfOk result (λ watched. AreKeptListeners shown watched w) }
 {
     match shown {
         Shown::Sent => Ok(None),
         Shown::SentAndFlows => {
-            let watched = Watched::new(alloc)?;
+            let watched = Watched::of(alloc, core)?;
             Ok(Some(watched))
         }
     }
-}
-
-/// Creates the buffers of a runner: one for output and, if changes are shown, one for the terminations.
-///
-/// Fails only if an allocation fails.
-fn outputs(alloc: Global, shown: Shown) -> Result<(Bytes, Option<Watched>), AllocError>
-    ensures output { IfOk result (λ (output, watched). output ≡ record { text = []; room = OUTPUT_LIMIT }) }
-    ensures watched { (config : Config) →
-        IfOk result (λ (output, watched). AreKeptListeners shown watched (start_of config)) }
-{
-    let output = Bytes::new(alloc, OUTPUT_LIMIT)?;
-    Ok((output, watched_for(alloc, shown)?))
 }
 
 /// Runs the lines of a script on a gateway, and writes the output.
@@ -65,18 +51,16 @@ pub struct LineRunner {
 }
 
 impl LineRunner {
-    /// Creates a runner with a new gateway.
-    pub fn new(alloc: Global, config: Config, shown: Shown) -> Result<Self, StartFault>
-        ensures bad { (result ≡ Err StartFault.BadConfig) ↔ ¬ IsValidConfig config }
-        ensures sound { OnOk result (IsValidConfig config) }
-        ensures start { IfOk result (λ runner. Follows shown runner.core.state runner.watched (start_of config)) }
+    /// Creates a runner with this gateway. Fails only if an allocation fails.
+    pub fn new(alloc: Global, core: Core, shown: Shown) -> Result<Self, AllocError>
+        ensures start { (w : World) → StandsFor core.state w →
+            IfOk result (λ runner. Follows shown runner.core.state runner.watched w) }
         ensures sent { IfOk result (λ runner. runner.sent ≡ 0) }
     {
-        let core = Core::new(alloc, config)?;
-        let (output, watched) = outputs(alloc, shown)?;
+        let watched = watched_for(alloc, &core, shown)?;
         Ok(LineRunner {
             core,
-            output,
+            output: Bytes::new(alloc, OUTPUT_LIMIT)?,
             sent: 0,
             watched,
         })
@@ -138,7 +122,7 @@ impl LineRunner {
         Ok(())
     }
 
-    /// Writes the changes of a control datagram, if changes are shown.
+    /// Writes the changes that a control datagram caused, if changes are shown.
     fn show_changes<W: Write>(&mut self, writer: &mut W) -> Result<(), EventFault>
         ensures core { self.new.core ≡ self.old.core }
         ensures sent { self.new.sent ≡ self.old.sent }

@@ -248,7 +248,8 @@ impl Core {
         put_error(&config, number, &mut self.answer);
     }
 
-    /// Returns the text of the last answer. It is empty if there was no answer, or if memory ran out.
+    /// Returns the answer to the last control datagram. It is empty before the first one, if there was no answer, or if
+    /// memory ran out.
     pub fn answer(&self) -> &[u8]
         ensures value { result.now ≡ self.now.answer }
     {
@@ -325,7 +326,8 @@ impl Core {
         self.state.engine.talkers(listener)
     }
 
-    /// Returns the sum of sample `i` over all talkers of a context in this tick. The sum is not saturated to 16 bits.
+    /// Returns the sum of sample `i` over the current frames of all talkers in a context. The sum is not saturated to
+    /// 16 bits.
     ///
     /// Returns `None` if the context does not exist, or if `i` is not below 160.
     pub fn total(&self, context: u32, i: usize) -> Option<i32>

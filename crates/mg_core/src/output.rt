@@ -18,7 +18,7 @@ pub const PEER_LIMIT: usize = ADDRESS_LIMIT + 1 + PORT_LIMIT;
 /// and a line feed.
 pub const LINE_START: usize = 6 + PEER_LIMIT;
 
-/// The number of hexadecimal digits in a packet.
+/// The number of hexadecimal digits for the bytes of a packet.
 const DIGITS_LEN: usize = 2 * PACKET_LEN;
 
 /// The maximum length, in bytes, of the line for a packet: `rtp`, three spaces, a port, a peer, the digits and a line

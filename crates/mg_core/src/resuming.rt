@@ -42,8 +42,8 @@ pub fn resume<R: Read, F: Follower>(
 /// Consecutive ticks are run together, so hours of ticks cost little more than reading their lines. RTP datagrams in
 /// the script are handled too.
 ///
-/// Fails with `Script` at the first bad line, and with `Write` if the follower stops. Also fails with `Read` after
-/// 4,294,967,295 reads.
+/// Fails with `Script` at the first bad line, with `Write` if the follower stops, and with `NoMemory` if memory runs
+/// out. Fails with `Read` if reading fails, or if 4,294,967,295 reads don't reach the end.
 pub fn resume_from<R: Read, F: Follower>(
     alloc: Global,
     core: Core,

@@ -104,7 +104,7 @@ fn unhex(alloc: Global, digits: &[u8]) -> Result<Vec<u8>, ParseFault>
     }
 }
 
-/// The encoding of a datagram in a script line. The first word of the line determines it.
+/// The encoding of a control datagram in a script line. The first word of the line determines it.
 #[derive(Clone, Copy, Debug, PartialEq, Eq)]
 enum Spelling {
     /// Text with escapes.

@@ -1,7 +1,5 @@
-ghost use Rattle.std.specs.Prelude.{◌≡◌, ◌+◌, ◌*◌, ◌^◌, ◌<◌, ◌≤◌, ◌↔◌, [], ℕ, List, length, Some, OnOk, IfOk, Result};
-ghost use Rattle.mg_engine.specs.declared.config.Config.{Config};
-ghost use Rattle.mg_engine.specs.Config.{IsValidConfig};
-ghost use Rattle.mg_core.specs.World.{World, counts_of, start_of};
+ghost use Rattle.std.specs.Prelude.{◌≡◌, ◌+◌, ◌*◌, ◌^◌, ◌<◌, ◌≤◌, [], ℕ, List, length, Some, OnOk, IfOk, Result};
+ghost use Rattle.mg_core.specs.World.{World, counts_of};
 ghost use Rattle.mg_core.specs.aids.Stands.{StandsFor};
 ghost use Rattle.mg_lines.specs.Lines.{without_return};
 ghost use Rattle.mg_core.specs.aids.Steps.{AllRan, Follows, LeadsOn, LineRan, BytesRan, Finishes};
@@ -11,12 +9,12 @@ ghost use Rattle.mg_core.specs.declared.script_runner.TheConstants.{PARTIAL_LIMI
 use crate::counts::Counts;
 use crate::fault::{LineFault, ScriptFault};
 use crate::line_runner::LineRunner;
+use crate::machine::Core;
 use crate::script::LINE_LIMIT;
 use crate::shown::Shown;
-use mg_engine::{Config, StartFault};
 use mg_lines::{READ_SIZE, read_some, without_return};
 use mg_reply::Bytes;
-use std::alloc::Global;
+use std::alloc::{AllocError, Global};
 use std::io::{Read, Write};
 
 /// The maximum length of a partial line, in bytes: the longest line and a carriage return.
@@ -33,17 +31,15 @@ pub struct ScriptRunner {
 }
 
 impl ScriptRunner {
-    /// Creates a runner with a new gateway, at the start of a script.
-    pub fn new(alloc: Global, config: Config, shown: Shown) -> Result<Self, StartFault>
-        ensures bad { (result ≡ Err StartFault.BadConfig) ↔ ¬ IsValidConfig config }
-        ensures sound { OnOk result (IsValidConfig config) }
-        ensures start { IfOk result (λ s.
-            Follows shown s.runner.core.state s.runner.watched (start_of config)) }
+    /// Creates a runner with this gateway, at the start of a script. Fails only if an allocation fails.
+    pub fn new(alloc: Global, core: Core, shown: Shown) -> Result<Self, AllocError>
+        ensures start { (w : World) → StandsFor core.state w →
+            IfOk result (λ s. Follows shown s.runner.core.state s.runner.watched w) }
         ensures lines { IfOk result (λ s. s.lines ≡ 0) }
         ensures sent { IfOk result (λ s. s.runner.sent ≡ 0) }
         ensures partial { IfOk result (λ s. s.partial.text ≡ []) }
     {
-        let runner = LineRunner::new(alloc, config, shown)?;
+        let runner = LineRunner::new(alloc, core, shown)?;
         Ok(ScriptRunner {
             runner,
             lines: 0,
@@ -114,7 +110,7 @@ impl ScriptRunner {
         Ok(())
     }
 
-    /// Reads a whole script, and runs it on a new gateway.
+    /// Reads a whole script, and runs it on the runner's gateway. The runner must not have run anything yet.
     pub fn take_all<R: Read, W: Write>(
         &mut self,
         alloc: Global,
@@ -124,9 +120,9 @@ impl ScriptRunner {
         requires lines { self.old.lines ≡ 0 }
         requires partial { self.old.partial.text ≡ [] }
         requires sent { self.old.runner.sent ≡ 0 }
-        ensures value { (shown : Shown) (config : Config) →
-            Follows shown self.old.runner.core.state self.old.runner.watched (start_of config) →
-            AllRan config shown (R.remaining reader.old) (R.remaining reader.new) self.new.runner.core.state
+        ensures value { (shown : Shown) (base : World) →
+            Follows shown self.old.runner.core.state self.old.runner.watched base →
+            AllRan base shown (R.remaining reader.old) (R.remaining reader.new) self.new.runner.core.state
             self.new.lines self.new.runner.sent (W.contents writer.old) (W.contents writer.new) result }
     {
         let mut buffer = [0; READ_SIZE];

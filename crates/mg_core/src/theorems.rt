@@ -127,14 +127,13 @@ pub fn worlds_are_consistent()
 /// Between two control datagrams or ticks, the order of RTP datagrams at different ports does not matter.
 ///
 /// Suppose two lists of events contain the same control datagrams and ticks, in the same order. Suppose also that
-/// between these, each port receives the same RTP datagrams, in the same order. Then the gateway sends the same
-/// datagrams for both lists, and ends in the same world.
+/// between two of these, before the first and after the last, each port receives the same RTP datagrams in the same
+/// order. Then the gateway sends the same datagrams for both lists, and ends in the same world.
 pub fn port_order_is_irrelevant()
     ensures events { PortOrderIsIrrelevant }
     ensures scripts { PortOrderInScripts }
 {
     outcomes_are_unique();
-    bases_stay_bases();
     mg_engine::theorems::port_order_is_irrelevant();
     mg_engine::theorems::worlds_are_consistent();
     mg_commands::theorems::requests_are_consistent();
@@ -159,8 +158,8 @@ pub fn unheard_changes_nothing()
 
 /// RTP datagrams change only speech.
 ///
-/// Suppose two gateways begin with the same base and receive the same control datagrams and ticks, but only one of
-/// them receives RTP datagrams, and control datagrams that are longer than any message. Then both gateways have the same
+/// Suppose two gateways begin with the same base and receive the same ticks and the same control datagrams of at most
+/// 8,192 bytes. Only one of them receives RTP datagrams and longer control datagrams. Then both gateways have the same
 /// terminations, contexts and topology, and keep replies to the same requests. They can differ only in play lists (but
 /// not in their depths), current frames, the texts of kept replies, and the counts of datagrams, received packets and
 /// concealed frames. Their bases may also differ in these.
@@ -178,9 +177,9 @@ pub fn rtp_changes_speech_only()
 /// could hear whom, and when.
 ///
 /// In two worlds that agree except for what was received, the same flows are open. Suppose two gateways begin with such
-/// worlds and receive the same control datagrams and ticks, but only one of them receives RTP datagrams, and control
-/// datagrams that are longer than any message. Then both report the same changes. So a journal can leave these
-/// datagrams out.
+/// worlds and receive the same ticks and the same control datagrams of at most 8,192 bytes. Only one of them receives
+/// RTP datagrams and longer control datagrams. Then both report the same changes. So a journal can leave out RTP
+/// datagrams and these longer control datagrams.
 pub fn rtp_changes_no_flow()
     ensures flows { AgreementHasSameFlows }
     ensures reports { AgreementHasSameReports }

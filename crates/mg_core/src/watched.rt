@@ -1,4 +1,4 @@
-ghost use Rattle.std.specs.Prelude.{◌≡◌, [], IfOk};
+ghost use Rattle.std.specs.Prelude.{◌≡◌, IfOk};
 ghost use Rattle.mg_lines.specs.Streams.{Writes};
 ghost use Rattle.mg_core.specs.Flows.{changes, listeners_of};
 ghost use Rattle.mg_core.specs.World.{World, capped};
@@ -41,18 +41,20 @@ impl Model for Watched {
 }
 
 impl Watched {
-    /// Creates a store without terminations. Fails only if an allocation fails. No other call allocates.
-    pub fn new(alloc: Global) -> Result<Self, AllocError>
-        ensures value { IfOk result (λ x. x ≡ []) }
+    /// Creates a store of a core's terminations. Fails only if an allocation fails. No other call allocates.
+    pub fn of(alloc: Global, core: &Core) -> Result<Self, AllocError>
+        ensures value { IfOk result (λ x. (w : World) → StandsFor core.now.state w → x ≡ listeners_of w.gateway) }
     {
+        let mut listeners = KeptListeners::new(alloc)?;
+        listeners.fill(core);
         Ok(Watched {
-            listeners: KeptListeners::new(alloc)?,
+            listeners,
             next: KeptListeners::new(alloc)?,
             text: Bytes::new(alloc, CHANGES_LIMIT)?,
         })
     }
 
-    /// Writes the changes of a core since the last call, and stores its current terminations.
+    /// Writes what has changed in a core since the last call, and stores the core's current terminations.
     #[tactic(auto, using(crate::proofs::AnswerLemmas::totals))]
     pub fn write_changes<W: Write>(
         &mut self,

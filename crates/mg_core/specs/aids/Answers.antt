@@ -6,7 +6,7 @@ use Rattle.mg_commands.specs.Transaction.{replied}
 use Rattle.mg_core.specs.World.{World}
 use Rattle.mg_core.specs.Answer.{run_and_kept}
 
--- The reply to a request, and the world after it, if this reply (or none) is kept for the request.
+-- The reply to a request, and the world after it, given the request's kept reply, or `None` if no reply is kept.
 abbrev pub unless_kept : Option (List ℕ) → List ℕ → List ℕ → Request → World → List ℕ × World
 unless_kept kept source sender request w =
     option_map_or (λ text. (text, w)) kept

@@ -2,13 +2,12 @@
 use Rattle.std.specs.Prelude.{◌≡◌, ℕ, ◌+◌, ◌<◌, Bool, true, false, List, [], ◌∷◌, ◌++◌, length}
 use Rattle.std.specs.Prelude.{Option, Some}
 use Rattle.std.specs.Io.KnownBytes.{Appends}
-use Rattle.mg_engine.specs.declared.config.Config.{Config}
 use Rattle.mg_core.specs.declared.event.Event.{Event}
 use Rattle.mg_core.specs.declared.shown.Shown.{Shown}
 use Rattle.mg_core.specs.Run.{HasBadAfter, HasRead, IsShownText, Ran, RanBeforeMore}
 use Rattle.mg_core.specs.Script.{events_of}
 use Rattle.mg_core.specs.Step.{Sent, Run}
-use Rattle.mg_core.specs.World.{World, start_of}
+use Rattle.mg_core.specs.World.{World}
 use Rattle.mg_lines.specs.Lines.{lines_of}
 
 -- Lines were run, but only a proper prefix of their text was written.
@@ -28,7 +27,7 @@ pub record RanInPart (shown : Shown) (w : World) (lines : List (List ℕ)) (last
 
 -- The first bad line has this number, and the lines before it were run. The line is bad, whatever text may follow the
 -- text that was read. No text follows if the input has ended.
-pub record RanToBadLine (config : Config) (shown : Shown) (input rest : Option (List ℕ))
+pub record RanToBadLine (base : World) (shown : Shown) (input rest : Option (List ℕ))
     (number : ℕ) (old new : Option (List ℕ)) : Type 0 where
   pub text : List ℕ
   pub ended : Bool
@@ -39,18 +38,18 @@ pub record RanToBadLine (config : Config) (shown : Shown) (input rest : Option (
       → HasBadAfter lines (lines_of true (text ++ more))
   pub number_is : number ≡ length lines + 1
   pub last : World
-  pub ran : Ran shown (start_of config) lines last old new
+  pub ran : Ran shown base lines last old new
 
 -- In the text that was read, the complete lines were run, and no other lines.
-pub record RanAllRead (config : Config) (shown : Shown) (input rest old new : Option (List ℕ))
+pub record RanAllRead (base : World) (shown : Shown) (input rest old new : Option (List ℕ))
     : Type 0 where
   pub text : List ℕ
   pub read : HasRead input rest text false
   pub last : World
-  pub ran : Ran shown (start_of config) (lines_of false text) last old new
+  pub ran : Ran shown base (lines_of false text) last old new
 
 -- In the text that was read, the lines before this line were run, and led to this world.
-pub record RanUpTo (config : Config) (shown : Shown) (input rest : Option (List ℕ))
+pub record RanUpTo (base : World) (shown : Shown) (input rest : Option (List ℕ))
     (line : List ℕ) (now : World) (old new : Option (List ℕ)) : Type 0 where
   pub text : List ℕ
   pub ended : Bool
@@ -59,21 +58,21 @@ pub record RanUpTo (config : Config) (shown : Shown) (input rest : Option (List 
   pub before_more : RanBeforeMore text ended lines
   pub others : List (List ℕ)
   pub line_is : lines_of ended text ≡ lines ++ line ∷ others
-  pub ran : Ran shown (start_of config) lines now old new
+  pub ran : Ran shown base lines now old new
 
 -- A line and all lines before it were run, but the output of this line was written only in part.
-pub record RanToCutLine (config : Config) (shown : Shown) (input rest old new : Option (List ℕ))
+pub record RanToCutLine (base : World) (shown : Shown) (input rest old new : Option (List ℕ))
     : Type 0 where
   pub line : List ℕ
   pub now : World
   pub held : Option (List ℕ)
-  pub up_to : RanUpTo config shown input rest line now old held
+  pub up_to : RanUpTo base shown input rest line now old held
   pub last : World
   pub cut : RanInPart shown now (line ∷ []) last held new
 
 -- A line had no effect, and all lines before it were run.
-pub record RanToUnrunLine (config : Config) (shown : Shown) (input rest old new : Option (List ℕ))
+pub record RanToUnrunLine (base : World) (shown : Shown) (input rest old new : Option (List ℕ))
     : Type 0 where
   pub line : List ℕ
   pub now : World
-  pub up_to : RanUpTo config shown input rest line now old new
+  pub up_to : RanUpTo base shown input rest line now old new

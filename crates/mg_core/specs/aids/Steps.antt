@@ -2,7 +2,6 @@
 use Rattle.std.specs.Prelude.{if◌then◌else◌, ◌≡◌, ℕ, ◌+◌, List, [], ◌∷◌, ◌++◌, length}
 use Rattle.std.specs.Prelude.{Bool, true, false, Option, Some, None, Result, Ok, Err, OnOk}
 use Rattle.std.specs.Io.KnownBytes.{Keeps, Appends}
-use Rattle.mg_engine.specs.declared.config.Config.{Config}
 use Rattle.mg_engine.specs.declared.fault.StartFault.{StartFault}
 use Rattle.mg_engine.specs.declared.fault.StartFault.TheVariants as starts
 use Rattle.mg_words.specs.declared.error_number.ErrorNumber.{ErrorNumber}
@@ -26,7 +25,7 @@ use Rattle.mg_reply.specs.declared.item.Item.TheVariants as reported
 use Rattle.mg_reply.specs.Reply.{Answered}
 use Rattle.mg_reply.specs.aids.Width.{is_too_long}
 use Rattle.mg_reply.specs.Written.{reply_text}
-use Rattle.mg_core.specs.World.{World, capped, start_of}
+use Rattle.mg_core.specs.World.{World, capped}
 use Rattle.mg_core.specs.aids.Stands.{StandsFor}
 use Rattle.mg_lines.specs.Lines.{lines_after, lines_of}
 use Rattle.mg_lines.specs.Streams.{WritesFront}
@@ -44,13 +43,13 @@ TextGrows old new before text f =
     Leads StandsFor old new (λ w next. (out : List ℕ) × (f w ≡ (out, next))
     × (text ≡ before ++ out))
 
--- The text that is written for a reply: the reply's own text, or an error instead.
+-- The text that is written for a reply: the reply's own text, or an error if the reply is too long.
 abbrev pub put_text : Answered → List ℕ
 put_text r =
     if is_too_long r then reply_text r.number (reported.Fault numbers.ReplyTooLong ∷ [])
     else reply_text r.number r.items
 
--- The error with which a message is rejected, unless memory ran out.
+-- The error with which a message is rejected, or `None` if memory ran out.
 abbrev pub refusal_of : ReadFault → Option ErrorNumber
 refusal_of (readings.Syntax place) = Some numbers.Syntax
 refusal_of (readings.Version n) = Some numbers.Version
@@ -164,27 +163,27 @@ Finishes shown count counted (b ∷ bs) w next n m old new result =
 
 -- The whole script was run, the state represents the resulting world, and the lines and datagrams
 -- sent were counted.
-pub record AllRanCounted (config : Config) (shown : Shown) (script : List ℕ) (state : CoreState)
+pub record AllRanCounted (base : World) (shown : Shown) (script : List ℕ) (state : CoreState)
     (count n : ℕ) (old new : Option (List ℕ)) : Type 0 where
   pub last : World
-  pub ran : RanCounted shown (start_of config) (lines_of true script) last 0 n old new
+  pub ran : RanCounted shown base (lines_of true script) last 0 n old new
   pub stands : StandsFor state last
   pub lines : count ≡ length (lines_of true script)
 
 -- A whole input was run, or the run failed. In that case, the fault determines how far it got.
-abbrev pub AllRan : Config → Shown → (input rest : Option (List ℕ)) → CoreState → ℕ → ℕ
+abbrev pub AllRan : (base : World) → Shown → (input rest : Option (List ℕ)) → CoreState → ℕ → ℕ
     → (old new : Option (List ℕ)) → Result (Unit {0}) ScriptFault → Type 0
-AllRan config shown input rest state count n old new (Ok done) =
+AllRan base shown input rest state count n old new (Ok done) =
     (script : List ℕ) × HasRead input rest script true
-    × AllRanCounted config shown script state count n old new
-AllRan config shown input rest state count n old new (Err (scripts.Bad number)) =
-    RanToBadLine config shown input rest number old new
-AllRan config shown input rest state count n old new (Err scripts.Read) =
-    RanAllRead config shown input rest old new
-AllRan config shown input rest state count n old new (Err scripts.Write) =
-    RanToCutLine config shown input rest old new
-AllRan config shown input rest state count n old new (Err scripts.NoMemory) =
-    RanToUnrunLine config shown input rest old new
+    × AllRanCounted base shown script state count n old new
+AllRan base shown input rest state count n old new (Err (scripts.Bad number)) =
+    RanToBadLine base shown input rest number old new
+AllRan base shown input rest state count n old new (Err scripts.Read) =
+    RanAllRead base shown input rest old new
+AllRan base shown input rest state count n old new (Err scripts.Write) =
+    RanToCutLine base shown input rest old new
+AllRan base shown input rest state count n old new (Err scripts.NoMemory) =
+    RanToUnrunLine base shown input rest old new
 
 -- ## Conversions of faults
 

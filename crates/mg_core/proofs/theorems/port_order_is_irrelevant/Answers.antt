@@ -1,5 +1,4 @@
 use Rattle.mg_core.specs.Interleaving.{PortOrderIsIrrelevant}
-use Rattle.mg_core.specs.World.{start_of}
 use Rattle.mg_core.proofs.InterleavingLemmas.{one_run}
 use Rattle.mg_core.proofs.theorems.port_order_is_irrelevant.Goals as goal
 
@@ -10,7 +9,6 @@ returns c =
     c.requests_are_consistent.ensures.theorem c.worlds_are_consistent.ensures.media a b base v w s t is.rooms same run runs in
     record {
       events = theorem;
-      scripts = λ config first second one other counts more old new was now is a b same. theorem (start_of config)
-          a.ran.events b.ran.events a.ran.sent b.ran.sent a.last b.last
-          (c.bases_stay_bases.ensures.starts config is) same a.ran.run b.ran.run;
+      scripts = λ base first second one other counts more old new was now is a b same. theorem base
+          a.ran.events b.ran.events a.ran.sent b.ran.sent a.last b.last is same a.ran.run b.ran.run;
     }

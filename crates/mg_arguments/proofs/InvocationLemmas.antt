@@ -1,6 +1,6 @@
 -- The run that the arguments request, depending on whether the command line finds a fault in them.
 use Rattle.std.proofs.Common.{◌≡◌, ◌∙◌, ◌&&◌, ℕ, Bool, true, false, not, List, [], ◌∷◌, Option, Some, None, is_some, inl, inr, refl, sym, ap, ap₂, true≢false, Result, Ok, Err, codes}
-use Rattle.std.specs.Prelude.{Box, IfErr, IsErrAnd, option_and_then, option_map}
+use Rattle.std.specs.Prelude.{Box, IfErr, IsErrAnd, option_and_then, option_map, unwrap_or}
 use Rattle.std.specs.List.{list_any}
 use Rattle.std.specs.Option.{option_map_or}
 use Rattle.std.specs.Box.{box_value}
@@ -21,19 +21,16 @@ use Rattle.mg_words.specs.ResultSteps.{◌>>=◌}
 use Rattle.mg_options.specs.Requested.{IsRefused, requested_by}
 use Rattle.mg_options.proofs.RequestedLemmas.{no_fault, subcommand_is}
 use Rattle.mg_engine.specs.declared.config.Config.{Config}
-use Rattle.mg_engine.specs.Config.{standard}
 use Rattle.mg_arguments.specs.declared.invocation.Invocation.{Invocation}
 use Rattle.mg_arguments.specs.declared.invocation.Invocation.TheVariants.{Check}
-use Rattle.mg_arguments.specs.FilePath.{file_path}
-use Rattle.mg_arguments.specs.declared.file_path_fault.FilePathFault.{FilePathFault}
 use Rattle.mg_core.specs.Peer.{peer_of}
 use Rattle.mg_words.specs.declared.peer.Peer.{Peer}
 use Rattle.mg_arguments.specs.declared.address.AddressFault.{AddressFault}
-use Rattle.mg_arguments.specs.declared.controller_fault.ControllerFault.{ControllerFault}
-use Rattle.mg_journal.specs.declared.durability.Durability.{Durability}
 use Rattle.mg_arguments.specs.declared.service.Service.{Service}
-use Rattle.mg_options.specs.Numbers.{number_or}
-use Rattle.mg_arguments.specs.Options.{address_in, check_in, command_line, config_at, controllers_in, durability_in, gateway_in, given_in, heard_options, is_set, named_by, options, requested, run_in, run_of, service_in, valid}
+use Rattle.mg_arguments.specs.declared.config_options.ConfigOptions.{ConfigOptions}
+use Rattle.mg_arguments.specs.Address.{own_address}
+use Rattle.mg_arguments.specs.ConfigOptions.{config_of}
+use Rattle.mg_arguments.specs.Options.{check_in, command_line, gateway_in, heard_options, named_by, options, options_in, requested, run_in, run_of, service_in, valid}
 
 abbrev has_kinds : Kinds → Bool
 has_kinds [] = false
@@ -118,118 +115,79 @@ module _ (line : App) (words : List Text) (is : line ≡ command_line) where
       (sym (subcommand_is line command_line words is is_simple_line m matches) ∙
       both_found (out-ArgMatches m).subcommand name rows named found)
 
--- If `config` is the standard configuration, its address is the default for the option.
-pub named_or_standard : (rows : List Row) (config : Config) (found : Result (List ℕ) AddressFault) → config ≡ standard
-    → found ≡ address_in (codes "address") config.address rows
-    → found ≡ address_in (codes "address") standard.address rows
-named_or_standard rows config found is named =
-    named ∙ ap (λ (c : Config). address_in (codes "address") c.address rows) is
+abbrev with_service : Text → List Row → ConfigOptions → Service → Result Invocation Kinds
+with_service name rows given service = Ok (run_of name (config_of given) service rows)
 
--- If a step returns a valid value, the next step continues with the value.
-continues : {A B E : Type 0} (value : A) (read : Result A E) (next : A → Result B Kinds) → Ok value ≡ read →
-    (valid read >>= next) ≡ next value
-continues {A = A} {E = E} value read next is = ap (λ (r : Result A E). valid r >>= next) (sym is)
+abbrev with_given : Text → List Row → ConfigOptions → Result Invocation Kinds
+with_given name rows given = service_in given rows >>= with_service name rows given
 
-stops : {A B E : Type 0} (fault : E) (read : Result A E) (next : A → Result B Kinds) → Err fault ≡ read →
-    (valid read >>= next) ≡ Err (ValueValidation ∷ [])
-stops {A = A} {E = E} fault read next is = ap (λ (r : Result A E). valid r >>= next) (sym is)
+at_given : (name : Text) (rows : List Row) (given : ConfigOptions) → options_in rows ≡ Ok given
+    → gateway_in name rows ≡ with_given name rows given
+at_given name rows given is = ap (λ (r : Result ConfigOptions Kinds). r >>= with_given name rows) is
 
-abbrev with_service : Text → List Row → List ℕ → List ℕ → Service → Result Invocation Kinds
-with_service name rows address control service = Ok (run_of name (config_at address control rows) service rows)
-
-abbrev with_control : Text → List Row → List ℕ → List ℕ → Result Invocation Kinds
-with_control name rows address control = service_in rows >>= with_service name rows address control
-
-abbrev with_address : Text → List Row → List ℕ → Result Invocation Kinds
-with_address name rows address =
-    valid (address_in (codes "control-address") address rows) >>= with_control name rows address
-
-at_address : (name : Text) (rows : List Row) (address : List ℕ) → Ok address ≡ address_in (codes "address")
-    standard.address rows → gateway_in name rows ≡ with_address name rows address
-at_address name rows address named =
-    continues address (address_in (codes "address") standard.address rows) (with_address name rows) named
-
-at_control : (name : Text) (rows : List Row) (address control : List ℕ) → Ok address ≡ address_in (codes "address")
-    standard.address rows → Ok control ≡ address_in (codes "control-address") address rows
-    → gateway_in name rows ≡ with_control name rows address control
-at_control name rows address control named commanded =
-    at_address name rows address named ∙
-    continues control (address_in (codes "control-address") address rows) (with_control name rows address) commanded
-
--- If the addresses and the options of a gateway are valid, the run is that of the subcommand.
-pub run_is : (name : Text) (rows : List Row) (address control : List ℕ) (service : Service) (config : Config)
-    (run : Invocation) → Ok address ≡ address_in (codes "address") standard.address rows
-    → Ok control ≡ address_in (codes "control-address") address rows → service_in rows ≡ Ok service →
-    config ≡ config_at address control rows
+-- If the options of a gateway are valid, the run is that of the subcommand.
+pub run_is : (name : Text) (rows : List Row) (given : ConfigOptions) (service : Service) (config : Config)
+    (run : Invocation) → options_in rows ≡ Ok given → service_in given rows ≡ Ok service → config ≡ config_of given
     → run ≡ run_of name config service rows → gateway_in name rows ≡ Ok run
-run_is name rows address control service config run named commanded served configured is =
-    at_control name rows address control named commanded ∙
-    (ap (λ (r : Result Service Kinds). r >>= with_service name rows address control) served ∙
-    rw (is, configured) refl)
+run_is name rows given service config run read served configured is =
+    at_given name rows given read ∙
+    (ap (λ (r : Result Service Kinds). r >>= with_service name rows given) served ∙ rw (is, configured) refl)
 
--- If the address for media is invalid, the run is refused.
-pub refuses_address : (name : Text) (rows : List Row) (fault : AddressFault) →
-    Err fault ≡ address_in (codes "address") standard.address rows → gateway_in name rows ≡ Err (ValueValidation ∷ [])
-refuses_address name rows fault named =
-    stops fault (address_in (codes "address") standard.address rows) (with_address name rows) named
-
--- If the address for control messages is invalid, the run is refused.
-pub refuses_control : (name : Text) (rows : List Row) (address : List ℕ) (fault : AddressFault) →
-    Ok address ≡ address_in (codes "address") standard.address rows →
-    Err fault ≡ address_in (codes "control-address") address rows → gateway_in name rows ≡ Err (ValueValidation ∷ [])
-refuses_control name rows address fault named commanded =
-    at_address name rows address named ∙
-    stops fault (address_in (codes "control-address") address rows) (with_control name rows address) commanded
+-- If the options of the configuration are invalid, the run is refused.
+pub refuses_options : (name : Text) (rows : List Row) → options_in rows ≡ Err (ValueValidation ∷ []) →
+    gateway_in name rows ≡ Err (ValueValidation ∷ [])
+refuses_options name rows refused = ap (λ (r : Result ConfigOptions Kinds). r >>= with_given name rows) refused
 
 -- If the options of a gateway on sockets are invalid, the run is refused.
-pub refuses_service : (name : Text) (rows : List Row) (address control : List ℕ) →
-    Ok address ≡ address_in (codes "address") standard.address rows →
-    Ok control ≡ address_in (codes "control-address") address rows →
-    service_in rows ≡ Err (ValueValidation ∷ []) → gateway_in name rows ≡ Err (ValueValidation ∷ [])
-refuses_service name rows address control named commanded refused =
-    at_control name rows address control named commanded ∙
-    ap (λ (r : Result Service Kinds). r >>= with_service name rows address control) refused
+pub refuses_service : (name : Text) (rows : List Row) (given : ConfigOptions) → options_in rows ≡ Ok given →
+    service_in given rows ≡ Err (ValueValidation ∷ []) → gateway_in name rows ≡ Err (ValueValidation ∷ [])
+refuses_service name rows given read refused =
+    at_given name rows given read ∙ ap (λ (r : Result Service Kinds). r >>= with_service name rows given) refused
 
--- The value of a path that was read: the path, or the fault.
-abbrev some_path : Result (List ℕ) FilePathFault → Result (Option (List ℕ)) FilePathFault
-some_path read = read >>= (λ path. Ok (Some path))
+-- The value that was read, or the fault.
+abbrev some_value : {A E : Type 0} → Result A E → Result (Option A) E
+some_value read = read >>= (λ value. Ok (Some value))
 
-abbrev written_by : Option Text → Result (Option (List ℕ)) FilePathFault
-written_by named = option_map_or (λ text. some_path (file_path text)) named (Ok None)
+abbrev written_by : {A E : Type 0} → (Text → Result A E) → Option Text → Result (Option A) E
+written_by read named = option_map_or (λ text. some_value (read text)) named (Ok None)
 
-pub path_is : (name : Text) (rows : List Row) (text path : List ℕ) → Some text ≡ first_of name rows →
-    Ok path ≡ file_path text → Ok (Some path) ≡ named_by file_path name rows
-path_is name rows text path named is = ap some_path is ∙ ap written_by named
+pub value_is : {A E : Type 0} (read : Text → Result A E) (name : Text) (rows : List Row) (text : Text) (value : A)
+    → Some text ≡ first_of name rows → Ok value ≡ read text → Ok (Some value) ≡ named_by read name rows
+value_is read name rows text value named is = ap some_value is ∙ ap (written_by read) named
 
-pub path_fails : (name : Text) (rows : List Row) (text : List ℕ) (fault : FilePathFault) →
-    Some text ≡ first_of name rows → Err fault ≡ file_path text → Err fault ≡ named_by file_path name rows
-path_fails name rows text fault named is = ap some_path is ∙ ap written_by named
+pub value_fails : {A E : Type 0} (read : Text → Result A E) (name : Text) (rows : List Row) (text : Text) (fault : E)
+    → Some text ≡ first_of name rows → Err fault ≡ read text → Err fault ≡ named_by read name rows
+value_fails read name rows text fault named is = ap some_value is ∙ ap (written_by read) named
 
-pub unwritten : (name : Text) (rows : List Row) → None ≡ first_of name rows → Ok None ≡ named_by file_path name rows
-unwritten name rows named = ap written_by named
+pub unwritten : {A E : Type 0} (read : Text → Result A E) (name : Text) (rows : List Row) → None ≡ first_of name rows
+    → Ok None ≡ named_by read name rows
+unwritten read name rows named = ap (written_by read) named
 
--- The check of `gateway` from the address `source`. Without a gateway, the arguments are invalid.
-abbrev check_of : Result (List ℕ) AddressFault → Option Peer → Result Invocation Kinds
-check_of source gateway = valid source >>= (λ address.
-    option_map_or (λ peer. Ok (Check peer address)) gateway (Err (ValueValidation ∷ [])))
+-- The check of `gateway` from the address `source`, if it is given. Without a gateway, the arguments are invalid.
+abbrev check_of : Result (Option (List ℕ)) AddressFault → Option Peer → Result Invocation Kinds
+check_of source gateway = valid source >>= (λ address. option_map_or
+    (λ peer. Ok (Check peer (unwrap_or address (0 ∷ 0 ∷ 0 ∷ 0 ∷ [])))) gateway (Err (ValueValidation ∷ [])))
 
-abbrev source_in : List Row → Result (List ℕ) AddressFault
-source_in rows = address_in (codes "source") (0 ∷ 0 ∷ 0 ∷ 0 ∷ []) rows
+abbrev source_in : List Row → Result (Option (List ℕ)) AddressFault
+source_in rows = named_by own_address (codes "source") rows
 
 abbrev named_gateway : List Row → Option Peer
 named_gateway rows = option_and_then peer_of (first_of (codes "gateway") rows)
 
-pub check_is : (rows : List Row) (source : List ℕ) (gateway : Peer) → Ok source ≡ source_in rows →
-    Some gateway ≡ named_gateway rows → check_in rows ≡ Ok (Check gateway source)
-check_is rows source gateway from is = sym (λ i. check_of (from i) (is i))
+pub check_is : (rows : List Row) (source : Option (List ℕ)) (gateway : Peer) (address : List ℕ) →
+    Ok source ≡ source_in rows → Some gateway ≡ named_gateway rows → address ≡ unwrap_or source (0 ∷ 0 ∷ 0 ∷ 0 ∷ [])
+    → check_in rows ≡ Ok (Check gateway address)
+check_is rows source gateway address from is chosen =
+    sym (λ i. check_of (from i) (is i)) ∙ sym (ap (λ (a : List ℕ). Ok (Check gateway a)) chosen)
 
-pub refuses_gateway : (rows : List Row) (source : List ℕ) → Ok source ≡ source_in rows →
+pub refuses_gateway : (rows : List Row) (source : Option (List ℕ)) → Ok source ≡ source_in rows →
     None ≡ named_gateway rows → check_in rows ≡ Err (ValueValidation ∷ [])
 refuses_gateway rows source from is = sym (λ i. check_of (from i) (is i))
 
 pub refuses_source : (rows : List Row) (fault : AddressFault) → Err fault ≡ source_in rows →
     check_in rows ≡ Err (ValueValidation ∷ [])
-refuses_source rows fault from = sym (ap (λ (source : Result (List ℕ) AddressFault). check_of source (named_gateway rows)) from)
+refuses_source rows fault from =
+    sym (ap (λ (source : Result (Option (List ℕ)) AddressFault). check_of source (named_gateway rows)) from)
 
 -- If `X` is true, it is also true in case of an error.
 pub at_error : {T E X : Type 0} (r : Result T E) → X → IfErr r (λ e. X)

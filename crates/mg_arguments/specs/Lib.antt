@@ -3,11 +3,10 @@ pub mod Read
 pub mod Controllers
 pub mod Rules
 pub mod ZoneName
+pub mod ConfigOptions
 pub mod Options
 pub mod Title
 pub mod Script
-pub mod Draws
-pub mod Given
 pub mod FilePath
 pub mod Setup
 pub mod aids

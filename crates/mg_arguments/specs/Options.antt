@@ -1,6 +1,6 @@
 -- The command line, as its parser represents it, and the run that the arguments request.
 use Rattle.std.specs.Prelude.{ℕ, Bool, true, false, if◌then◌else◌, List, [], ◌∷◌, Option, Some}
-use Rattle.std.specs.Prelude.{None, is_none, is_some, unwrap_or, option_and_then, ok_or, Result, Ok, Err}
+use Rattle.std.specs.Prelude.{None, is_some, unwrap_or, option_and_then, ok_or, Result, Ok, Err}
 use Rattle.std.specs.Prelude.{codes, drop, fold, length, ◌||◌, ◌&&◌, ◌==◌}
 use Rattle.std.specs.Option.{option_map_or}
 use Rattle.std.specs.Str.{bytes_eq}
@@ -27,14 +27,12 @@ use Rattle.mg_heard.specs.Asked.{asked_by}
 use Rattle.mg_heard.specs.declared.asked.Asked.TheVariants.{Key}
 use Rattle.mg_heard.specs.declared.party_name.PartyName.TheVariants.{Termination}
 use Rattle.mg_engine.specs.declared.config.Config.{Config}
-use Rattle.mg_engine.specs.Config.{standard}
-use Rattle.mg_arguments.specs.declared.address.AddressFault.{AddressFault}
 use Rattle.mg_journal.specs.declared.durability.Durability.{Durability}
 use Rattle.mg_journal.specs.declared.durability.Durability.TheVariants.{Written, Synced}
 use Rattle.mg_arguments.specs.declared.printing.Printing.{Printing}
-use Rattle.mg_arguments.specs.declared.draws.Draws.{Draws}
+use Rattle.mg_arguments.specs.declared.config_options.ConfigOptions.{ConfigOptions}
+use Rattle.mg_arguments.specs.ConfigOptions.{config_of}
 use Rattle.mg_arguments.specs.declared.heard_request.HeardRequest.{HeardRequest}
-use Rattle.mg_arguments.specs.declared.given.Given.{Given}
 use Rattle.mg_arguments.specs.declared.invocation.Invocation.{Invocation}
 use Rattle.mg_arguments.specs.declared.invocation.Invocation.TheVariants.{Replay, Serve, Live, Check}
 use Rattle.mg_arguments.specs.declared.invocation.Invocation.TheVariants.{Heard, Watch, Audible}
@@ -139,27 +137,6 @@ command_line =
 
 -- ## The values of the options
 
--- The configuration that the options specify, with these addresses for media and for control messages. Options that
--- aren't given have their default values.
-unfoldable pub config_at : List ℕ → List ℕ → List Row → Config
-config_at address control found = record standard {
-  address = address;
-  control_address = control;
-  control_port = number_or 65536 (codes "control-port") standard.control_port found;
-  base_port = number_or 65536 (codes "base-port") standard.base_port found;
-  slots = number_or 65536 (codes "slots") standard.slots found;
-  first_termination =
-      number_or 4294967296 (codes "first-termination") standard.first_termination found;
-  first_context = number_or 4294967296 (codes "first-context") standard.first_context found;
-  ssrc = number_or 4294967296 (codes "ssrc") standard.ssrc found;
-  sequence = number_or 65536 (codes "sequence") standard.sequence found;
-  timestamp = number_or 4294967296 (codes "timestamp") standard.timestamp found;
-}
-
--- The address that an option names, or `otherwise` if the option isn't given.
-abbrev pub address_in : Text → List ℕ → List Row → Result (List ℕ) AddressFault
-address_in name otherwise found = option_map_or own_address (first_of name found) (Ok otherwise)
-
 -- Whether a flag is set.
 abbrev pub is_set : Text → List Row → Bool
 is_set name found =
@@ -190,21 +167,6 @@ fence_in listed found =
     if strict || (is_set (codes "fence") found || is_given (codes "fence-from") found)
     then (if length listed == 0 then Err (ValueValidation ∷ []) else Ok (Some strict)) else Ok None
 
--- The options of the configuration that are given.
-abbrev pub given_in : List Row → Given
-given_in found = record {
-  address = is_given (codes "address") found;
-  control_address = is_given (codes "control-address") found;
-  control_port = is_given (codes "control-port") found;
-  base_port = is_given (codes "base-port") found;
-  slots = is_given (codes "slots") found;
-  first_termination = is_given (codes "first-termination") found;
-  first_context = is_given (codes "first-context") found;
-  ssrc = is_given (codes "ssrc") found;
-  sequence = is_given (codes "sequence") found;
-  timestamp = is_given (codes "timestamp") found;
-}
-
 -- ## The run that the arguments request
 
 -- The value that was read. If no value was read, the arguments are invalid.
@@ -212,9 +174,27 @@ abbrev pub valid : {A E : Type 0} → Result A E → Result A Kinds
 valid (Ok value) = Ok value
 valid (Err fault) = Err (ValueValidation ∷ [])
 
--- The options of a gateway on sockets.
-abbrev pub service_in : List Row → Result Service Kinds
-service_in found = do
+-- The options of a gateway's configuration. An option that isn't given has no value.
+abbrev pub options_in : List Row → Result ConfigOptions Kinds
+options_in found = do
+  address ← valid (named_by own_address (codes "address") found)
+  control ← valid (named_by own_address (codes "control-address") found)
+  Ok (record {
+    address = address;
+    control_address = control;
+    control_port = number_given 65536 (codes "control-port") found;
+    base_port = number_given 65536 (codes "base-port") found;
+    slots = number_given 65536 (codes "slots") found;
+    first_termination = number_given 4294967296 (codes "first-termination") found;
+    first_context = number_given 4294967296 (codes "first-context") found;
+    ssrc = number_given 4294967296 (codes "ssrc") found;
+    sequence = number_given 65536 (codes "sequence") found;
+    timestamp = number_given 4294967296 (codes "timestamp") found;
+  })
+
+-- The options of a gateway on sockets, with these options of its configuration.
+abbrev pub service_in : ConfigOptions → List Row → Result Service Kinds
+service_in given found = do
   controllers ← valid (controllers_in found)
   bound ← valid (bind_addresses_of (unwrap_or (all_of (codes "bind-address") found) []))
   metrics ← valid (named_by file_path (codes "metrics") found)
@@ -233,16 +213,8 @@ service_in found = do
     checkpoint_every = number_or 4294967296 (codes "checkpoint-every") 0 found;
     fence = fence;
     fence_from = number_given 4294967296 (codes "fence-from") found;
-    given = given_in found;
+    given = given;
   })
-
--- The numbers that a gateway in real time draws at random, because no option sets them.
-abbrev pub draws_of : List Row → Draws
-draws_of found = record {
-  ssrc = is_none (number_given 4294967296 (codes "ssrc") found);
-  sequence = is_none (number_given 65536 (codes "sequence") found);
-  timestamp = is_none (number_given 4294967296 (codes "timestamp") found);
-}
 
 -- The run that a subcommand requests. In `Live`, the number is the maximum lateness of a tick, in ticks: the packets of
 -- a later tick are not sent.
@@ -250,25 +222,23 @@ abbrev pub run_of : Text → Config → Service → List Row → Invocation
 run_of name config service found =
     if bytes_eq name (codes "serve") then Serve config service
     else (if bytes_eq name (codes "live")
-    then Live config service (draws_of found) (number_or 65536 (codes "late") 5 found)
+    then Live config service (number_or 65536 (codes "late") 5 found)
     else Replay config (if is_set (codes "flows") found then SentAndFlows else Sent))
 
 -- The check of the gateway that the argument names. Its messages come from the address that an option names, or by
 -- default from 0.0.0.0, which is any address.
 abbrev pub check_in : List Row → Result Invocation Kinds
 check_in found = do
-  source ← valid (address_in (codes "source") (0 ∷ 0 ∷ 0 ∷ 0 ∷ []) found)
-  option_map_or (λ gateway. Ok (Check gateway source))
+  source ← valid (named_by own_address (codes "source") found)
+  option_map_or (λ gateway. Ok (Check gateway (unwrap_or source (0 ∷ 0 ∷ 0 ∷ 0 ∷ []))))
       (option_and_then peer_of (first_of (codes "gateway") found)) (Err (ValueValidation ∷ []))
 
--- The run that a gateway's subcommand requests with these options. Without an address for control messages, the gateway
--- uses its address for media.
+-- The run that a gateway's subcommand requests with these options.
 abbrev pub gateway_in : Text → List Row → Result Invocation Kinds
 gateway_in name found = do
-  address ← valid (address_in (codes "address") standard.address found)
-  control ← valid (address_in (codes "control-address") address found)
-  service ← service_in found
-  Ok (run_of name (config_at address control found) service found)
+  given ← options_in found
+  service ← service_in given found
+  Ok (run_of name (config_of given) service found)
 
 -- ## Who could hear whom
 
@@ -283,7 +253,7 @@ format_of text =
     else (if bytes_eq text (codes "csv") then Some formats.Csv
     else (if bytes_eq text (codes "json") then Some formats.Json else None))
 
--- The terminations that a text selects: by a key, or also by a name if a file of names is given.
+-- The terminations that a text selects: by a key or, if a file of names is given, by a name.
 abbrev pub asked_in : List Row → Text → Option Asked
 asked_in found = asked_by (is_given (codes "names") found)
 
@@ -409,7 +379,7 @@ run_in name found =
     else (if bytes_eq name (codes "seal") then Ok Seal else gateway_in name found)))
 
 -- The run that the words request. They request no run if the parser reports an error, if a text is not a valid value of
--- its option, or if the options contradict each other.
+-- its option, or if an option contradicts another one or lacks one that it needs.
 unfoldable pub requested : List Text → Result Invocation Kinds
 requested words = requested_by (fault_of command_line words) (option_map_or
     (λ found. run_in found.0 found.1) (subcommand_of command_line words) (Err []))

@@ -1,5 +1,4 @@
 use crate::audible_request::AudibleRequest;
-use crate::draws::Draws;
 use crate::file_path::FilePath;
 use crate::file_paths::FilePaths;
 use crate::heard_request::HeardRequest;
@@ -14,10 +13,10 @@ pub enum Invocation {
     Replay(Config, Shown),
     /// Run a gateway on UDP ports, driven by input lines.
     Serve(Config, Service),
-    /// Run a gateway on UDP ports, driven by the clock. First, the numbers of its configuration that the third field
-    /// selects are drawn at random. The last field is the maximum lateness of a tick, in ticks: if a tick is later than
-    /// that, its packets are not sent.
-    Live(Config, Service, Draws, u16),
+    /// Run a gateway on UDP ports, driven by the clock. First, the initial numbers of its RTP packets that no option sets
+    /// are drawn at random. The last field is the maximum lateness of a tick, in ticks: if a tick is later than that, its
+    /// packets are not sent.
+    Live(Config, Service, u16),
     /// Check that the gateway with this control port answers messages from this address. 0.0.0.0 is any address of the
     /// machine.
     Check(Peer, [u8; 4]),

@@ -11,12 +11,12 @@
 //! }
 //! ```
 //!
-//! A [`Service`] holds the options of a gateway on sockets, except for its configuration. [`Draws`] draws the numbers
-//! that no option sets. [`title_of`] returns the title of a recording, which states a configuration as arguments, and
-//! [`titled`] reads a title.
+//! A [`Service`] holds the options of a gateway on sockets. [`ConfigOptions`] holds those of its configuration: it makes
+//! the configuration, compares it with another one, and draws the numbers that no option sets. [`title_of`] returns the
+//! title of a recording, which states a configuration as arguments, and [`titled`] reads a title.
 //!
-//! `specs/Options.antt` defines the run that the arguments request. `specs/Setup.antt` defines a session's setup, and
-//! `specs/Title.antt` defines the first line of a recording.
+//! `specs/Options.antt` defines the run that the arguments request, and `specs/ConfigOptions.antt` its configuration.
+//! `specs/Setup.antt` defines a session's setup, and `specs/Title.antt` defines the first line of a recording.
 #![tactic(auto)]
 
 mod address;
@@ -24,13 +24,12 @@ mod audible_request;
 mod bind_address_fault;
 mod bind_addresses;
 mod config_fault;
+mod config_options;
 mod controller_fault;
 mod controllers;
-mod draws;
 mod file_path;
 mod file_path_fault;
 mod file_paths;
-mod given;
 mod heard_options;
 mod heard_request;
 mod invocation;
@@ -51,13 +50,12 @@ pub use crate::audible_request::AudibleRequest;
 pub use crate::bind_address_fault::BindAddressFault;
 pub use crate::bind_addresses::{BindAddresses, MAX_BIND_ADDRESSES};
 pub use crate::config_fault::ConfigFault;
+pub use crate::config_options::ConfigOptions;
 pub use crate::controller_fault::ControllerFault;
 pub use crate::controllers::Controllers;
-pub use crate::draws::Draws;
 pub use crate::file_path::FilePath;
 pub use crate::file_path_fault::FilePathFault;
 pub use crate::file_paths::FilePaths;
-pub use crate::given::Given;
 pub use crate::heard_request::HeardRequest;
 pub use crate::invocation::Invocation;
 pub use crate::options::requested_run;

@@ -6,22 +6,21 @@ ghost use Rattle.mg_core.specs.Peer.{peer_of};
 ghost use Rattle.mg_options.specs.Requested.{IsRefused};
 ghost use Rattle.mg_options.specs.Line.{text_rule};
 ghost use Rattle.mg_options.specs.Numbers.{number_or};
-ghost use Rattle.mg_arguments.specs.Address.{bind_addresses_of};
+ghost use Rattle.mg_arguments.specs.Address.{bind_addresses_of, own_address};
 ghost use Rattle.mg_arguments.specs.FilePath.{file_path};
 ghost use Rattle.mg_arguments.specs.aids.Options.{IsInvalid, Refuses};
-ghost use Rattle.mg_arguments.specs.Options.{address_in, requested, command_line, config_at, controllers_in, repeated_rule};
-ghost use Rattle.mg_arguments.specs.Options.{check_in, check_line, draws_of, flag_rule, is_set, live_line, options, replay_line, run_of};
-ghost use Rattle.mg_arguments.specs.Options.{durability_in, fence_in, gateway_in, named_by, gateway_rule, given_in, is_given, run_in, service_in, sockets_line, subcommand_line};
+ghost use Rattle.mg_arguments.specs.Options.{requested, command_line, controllers_in, options_in, repeated_rule};
+ghost use Rattle.mg_arguments.specs.Options.{check_in, check_line, flag_rule, is_set, live_line, options, replay_line, run_of};
+ghost use Rattle.mg_arguments.specs.Options.{durability_in, fence_in, gateway_in, named_by, gateway_rule, is_given, run_in, service_in, sockets_line, subcommand_line};
 
 use crate::address::{AddressFault, own_address};
 use crate::bind_address_fault::BindAddressFault;
 use crate::bind_addresses::BindAddresses;
+use crate::config_options::ConfigOptions;
 use crate::controller_fault::ControllerFault;
 use crate::controllers::Controllers;
-use crate::draws::Draws;
 use crate::file_path::FilePath;
 use crate::file_path_fault::FilePathFault;
-use crate::given::Given;
 use crate::heard_options::{heard_command, script_in};
 use crate::invocation::Invocation;
 use crate::option_fault::OptionFault;
@@ -233,52 +232,44 @@ fn command<'a>(alloc: Global) -> Result<Command<'a>, Error>
     Ok(command)
 }
 
-/// Returns the address that an option names, or `otherwise` if the option isn't given.
-fn address_of(
-    name: &str,
-    otherwise: [u8; 4],
-    matches: &ArgMatches<'_>,
-) -> Result<[u8; 4], AddressFault>
-    ensures value { result ≡ address_in name.now otherwise (rows_of (found_of matches.now)) }
+/// Returns the address that an option names, or `None` if the option isn't given.
+fn address_of(name: &str, matches: &ArgMatches<'_>) -> Result<Option<[u8; 4]>, AddressFault>
+    ensures value { result ≡ named_by own_address name.now (rows_of (found_of matches.now)) }
 {
     match matches.get_str(name) {
-        Some(text) => own_address(text),
-        None => Ok(otherwise),
+        Some(text) => match own_address(text) {
+            Ok(address) => Ok(Some(address)),
+            Err(fault) => Err(fault),
+        },
+        None => Ok(None),
     }
 }
 
-/// Returns the configuration that the options specify, with these addresses for media and for control messages.
-///
-/// An option that was not given keeps its default.
-fn config_at(address: [u8; 4], control_address: [u8; 4], matches: &ArgMatches<'_>) -> Config
-    ensures value { result ≡ config_at address control_address (rows_of (found_of matches.now)) }
+/// Returns the options of a gateway's configuration, or the error message.
+fn options_in(matches: &ArgMatches<'_>) -> Result<ConfigOptions, &'static str>
+    ensures options { IfOk result (λ given. options_in (rows_of (found_of matches.now)) ≡ Ok given) }
+    ensures refused { IfErr result (λ _. options_in (rows_of (found_of matches.now)) ≡ Err (ValueValidation ∷ [])) }
 {
-    let standard = Config::default();
-    Config {
+    let address = match address_of("address", matches) {
+        Ok(address) => address,
+        Err(fault) => return Err(fault.message()),
+    };
+    let control_address = match address_of("control-address", matches) {
+        Ok(address) => address,
+        Err(fault) => return Err(fault.control_message()),
+    };
+    Ok(ConfigOptions {
         address,
         control_address,
-        control_port: short_value(matches, "control-port").unwrap_or(standard.control_port),
-        base_port: short_value(matches, "base-port").unwrap_or(standard.base_port),
-        slots: short_value(matches, "slots").unwrap_or(standard.slots),
-        first_termination: long_value(matches, "first-termination").unwrap_or(
-            standard.first_termination,
-        ),
-        first_context: long_value(matches, "first-context").unwrap_or(standard.first_context),
-        ssrc: long_value(matches, "ssrc").unwrap_or(standard.ssrc),
-        sequence: short_value(matches, "sequence").unwrap_or(standard.sequence),
-        timestamp: long_value(matches, "timestamp").unwrap_or(standard.timestamp),
-    }
-}
-
-/// Returns the choice of the numbers that are drawn at random because no option sets them.
-fn draws_of(matches: &ArgMatches<'_>) -> Draws
-    ensures value { result ≡ draws_of (rows_of (found_of matches.now)) }
-{
-    Draws {
-        ssrc: long_value(matches, "ssrc").is_none(),
-        sequence: short_value(matches, "sequence").is_none(),
-        timestamp: long_value(matches, "timestamp").is_none(),
-    }
+        control_port: short_value(matches, "control-port"),
+        base_port: short_value(matches, "base-port"),
+        slots: short_value(matches, "slots"),
+        first_termination: long_value(matches, "first-termination"),
+        first_context: long_value(matches, "first-context"),
+        ssrc: long_value(matches, "ssrc"),
+        sequence: short_value(matches, "sequence"),
+        timestamp: long_value(matches, "timestamp"),
+    })
 }
 
 /// Returns the maximum lateness, in ticks of 20 ms, at which a tick's packets are still sent.
@@ -409,28 +400,10 @@ pub(crate) fn is_given(name: &str, matches: &ArgMatches<'_>) -> bool
     }
 }
 
-/// Returns the options of the configuration that are given.
-fn given_of(matches: &ArgMatches<'_>) -> Given
-    ensures value { result ≡ given_in (rows_of (found_of matches.now)) }
-{
-    Given {
-        address: is_given("address", matches),
-        control_address: is_given("control-address", matches),
-        control_port: is_given("control-port", matches),
-        base_port: is_given("base-port", matches),
-        slots: is_given("slots", matches),
-        first_termination: is_given("first-termination", matches),
-        first_context: is_given("first-context", matches),
-        ssrc: is_given("ssrc", matches),
-        sequence: is_given("sequence", matches),
-        timestamp: is_given("timestamp", matches),
-    }
-}
-
-/// Returns the options of a gateway on sockets, or the error message.
-fn service_of(matches: &ArgMatches<'_>) -> Result<Service, &'static str>
-    ensures service { IfOk result (λ service. service_in (rows_of (found_of matches.now)) ≡ Ok service) }
-    ensures refused { IfErr result (λ _. service_in (rows_of (found_of matches.now)) ≡ Err (ValueValidation ∷ [])) }
+/// Returns the options of a gateway on sockets, with these options of its configuration, or the error message.
+fn service_of(given: ConfigOptions, matches: &ArgMatches<'_>) -> Result<Service, &'static str>
+    ensures service { IfOk result (λ service. service_in given (rows_of (found_of matches.now)) ≡ Ok service) }
+    ensures refused { IfErr result (λ _. service_in given (rows_of (found_of matches.now)) ≡ Err (ValueValidation ∷ [])) }
 {
     let controllers = match controllers_of(matches) {
         Ok(controllers) => controllers,
@@ -462,7 +435,7 @@ fn service_of(matches: &ArgMatches<'_>) -> Result<Service, &'static str>
         checkpoint_every: checkpoint_every_of(matches),
         fence,
         fence_from: long_value(matches, "fence-from"),
-        given: given_of(matches),
+        given,
     })
 }
 
@@ -473,7 +446,7 @@ fn run_of(name: &str, config: Config, service: Service, matches: &ArgMatches<'_>
     if name == "serve" {
         Invocation::Serve(config, service)
     } else if name == "live" {
-        Invocation::Live(config, service, draws_of(matches), late_of(matches))
+        Invocation::Live(config, service, late_of(matches))
     } else {
         Invocation::Replay(config, shown_of(matches))
     }
@@ -494,12 +467,12 @@ fn check_in(matches: &ArgMatches<'_>) -> Result<Invocation, &'static str>
     ensures run { IfOk result (λ run. check_in (rows_of (found_of matches.now)) ≡ Ok run) }
     ensures refused { IfErr result (λ _. check_in (rows_of (found_of matches.now)) ≡ Err (ValueValidation ∷ [])) }
 {
-    let source = match address_of("source", [0, 0, 0, 0], matches) {
+    let source = match address_of("source", matches) {
         Ok(address) => address,
         Err(fault) => return Err(fault.source_message()),
     };
     match gateway_of(matches) {
-        Some(gateway) => Ok(Invocation::Check(gateway, source)),
+        Some(gateway) => Ok(Invocation::Check(gateway, source.unwrap_or([0, 0, 0, 0]))),
         None => Err(NO_GATEWAY),
     }
 }
@@ -510,17 +483,9 @@ fn gateway_in(name: &str, matches: &ArgMatches<'_>) -> Result<Invocation, &'stat
     ensures refused { IfErr result (λ _. gateway_in name.now (rows_of (found_of matches.now)) ≡
         Err (ValueValidation ∷ [])) }
 {
-    let address = match address_of("address", Config::default().address, matches) {
-        Ok(address) => address,
-        Err(fault) => return Err(fault.message()),
-    };
-    let control = match address_of("control-address", address, matches) {
-        Ok(control) => control,
-        Err(fault) => return Err(fault.control_message()),
-    };
-    let service = service_of(matches)?;
-    let config = config_at(address, control, matches);
-    Ok(run_of(name, config, service, matches))
+    let given = options_in(matches)?;
+    let service = service_of(given, matches)?;
+    Ok(run_of(name, given.config(), service, matches))
 }
 
 /// Returns a run, or the fault with an error message.

@@ -4,15 +4,15 @@ ghost use Rattle.mg_arguments.specs.Setup.{setup_of};
 ghost use Rattle.mg_arguments.specs.Title.{title_line};
 
 use crate::bind_addresses::BindAddresses;
+use crate::config_options::ConfigOptions;
 use crate::controllers::Controllers;
 use crate::file_path::FilePath;
-use crate::given::Given;
 use mg_core::Config;
 use mg_fence::Fence;
 use mg_journal::Durability;
 use mg_serve::Setup;
 
-/// The options of a gateway on sockets, except for its configuration.
+/// The options of a gateway on sockets.
 #[derive(Drop)]
 pub struct Service {
     /// The controllers that may send messages to the gateway. If none is listed, anybody may.
@@ -23,7 +23,7 @@ pub struct Service {
     pub report: u16,
     /// Whether the output is a recording.
     pub records: bool,
-    /// Whether callers use symmetric RTP: their packets come from the address and port of their Remote.
+    /// Whether callers must use symmetric RTP: their packets must come from the address and port of their Remote.
     pub symmetric_rtp: bool,
     /// The file to which a gateway in real time writes metrics, or `None` if it writes none.
     pub metrics: Option<FilePath>,
@@ -38,9 +38,9 @@ pub struct Service {
     pub fence: Option<bool>,
     /// The number at which the fence begins, or `None` to begin at the number that the journal has reached.
     pub fence_from: Option<u32>,
-    /// The options of the configuration that are given. With a journal, the other options come from the journal's
-    /// title, if it has one.
-    pub given: Given,
+    /// The options of the configuration. With a journal, those that aren't given come from the journal's title, if it
+    /// has one.
+    pub given: ConfigOptions,
 }
 
 impl Service {

@@ -1,5 +1,5 @@
 -- The effect of running a gateway on UDP ports.
-use Rattle.std.specs.Prelude.{◌≡◌, ◌≢◌, ◌⊎◌, ℕ, ⊤, true, List, [], ◌∷◌, ◌++◌, drop, map, slice_get}
+use Rattle.std.specs.Prelude.{◌≡◌, ◌≢◌, ◌⊎◌, ℕ, ⊤, Bool, true, List, [], ◌∷◌, ◌++◌, drop, map, slice_get}
 use Rattle.std.specs.Prelude.{Option, Result, Err, unwrap_or}
 use Rattle.std.specs.List.{range_with_len}
 use Rattle.mg_clock.specs.Ticks.{ClockSeen}
@@ -18,7 +18,6 @@ use Rattle.mg_serve.specs.Serve.{ClockCommands, ReadCommands, Served, form_of}
 use Rattle.mg_host.specs.declared.host_call.HostCall.{HostCall}
 use Rattle.mg_host.specs.declared.host_call.HostCall.TheVariants.{Bind, BindAlso}
 use Rattle.mg_host.specs.HostCalls.{Grows, IsLogged, port_calls}
-use Rattle.mg_arguments.specs.declared.draws.Draws.{Draws}
 use Rattle.mg_arguments.specs.declared.service.Service.{Service}
 use Rattle.mg_arguments.specs.Setup.{setup_of}
 use Rattle.mg_arguments.specs.Title.{title_if}
@@ -91,11 +90,11 @@ ServesChosen drive unchanged config service held written text found last status 
 -- Either the gateway's journal (if any) was opened, a configuration was chosen, perhaps with drawn numbers, and
 -- `ServesChosen` holds. Or the gateway failed to start, with no call but the one that opens its journal, and
 -- `unchanged` is true.
-abbrev pub Serves : Drive → (unchanged : Type 0) → Config → Service → Draws
+abbrev pub Serves : Drive → (unchanged : Type 0) → Config → Service → (draws : Bool)
     → (held written : Option (List ℕ)) → (before last : Option (List HostCall)) → Status → Type 0
 Serves drive unchanged config service draws held written before last status =
     ((chosen : Config) × (text : Option (List ℕ)) × (found : Option (List HostCall))
     × Finds service.journal before found text
-    × IsChosen text service.given draws config chosen
+    × IsChosen text draws service.given config chosen
     × ServesChosen drive unchanged chosen service held written text found last status)
     ⊎ (FailsToStart config status × Opens service.journal before last × unchanged)

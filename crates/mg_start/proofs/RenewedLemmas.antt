@@ -84,7 +84,7 @@ followed_left None left rest base state Follows f = record {
 }
 followed_left (Some text) left rest base state Follows f = f
 
--- The script behind a checkpoint was run and followed to its end, so a gateway can resume.
+-- The script after a checkpoint was run and followed to its end, so a gateway can resume.
 pub resumes_behind : (text input left rest : Option (List ℕ)) (config : Config) (first state : CoreState)
     (timeline : Timeline) (reached : ℕ) (r : IsRestored config input left first)
     → input ≡ text → IfSome text (λ t. t ≢ []) → IsResumed r.base left rest state

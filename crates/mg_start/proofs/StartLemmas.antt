@@ -1,5 +1,5 @@
 -- The steps of a start: finding the journal, choosing the configuration, and starting.
-use Rattle.std.proofs.Common.{◌≡◌, ◌≢◌, inl, inr, ℕ, zero, suc, ◌<◌, ◌==◌, false, true, length, take, drop, slice_index, arith, List, [], ◌∷◌, ◌++◌, codes, Option, Some, None, refl, sym, ap, subst, ◌∙◌, append_assoc, append-nil, IfSome, MatchOption, Bor}
+use Rattle.std.proofs.Common.{◌≡◌, ◌≢◌, inl, inr, ℕ, Bool, zero, suc, ◌<◌, ◌==◌, false, true, length, take, drop, slice_index, arith, List, [], ◌∷◌, ◌++◌, codes, Option, Some, None, refl, sym, ap, subst, ◌∙◌, append_assoc, append-nil, IfSome, MatchOption, Bor}
 use Rattle.std.specs.Prelude.{reverse, unwrap_or}
 use Rattle.std.specs.Option.{option_map}
 use Rattle.std.proofs.lemmas.Bool.{eqb-true}
@@ -33,10 +33,8 @@ use Rattle.mg_journal.specs.Text.{whole_lines}
 use Rattle.mg_host.specs.declared.host_call.HostCall.{HostCall}
 use Rattle.mg_host.specs.declared.host_call.HostCall.TheVariants.{ReadDate}
 use Rattle.mg_host.specs.HostCalls.{Grows, IsLogged}
-use Rattle.mg_arguments.specs.declared.draws.Draws.{Draws}
-use Rattle.mg_arguments.specs.declared.given.Given.{Given}
-use Rattle.mg_arguments.specs.Draws.{IsDrawn}
-use Rattle.mg_arguments.specs.Given.{Agrees}
+use Rattle.mg_arguments.specs.declared.config_options.ConfigOptions.{ConfigOptions}
+use Rattle.mg_arguments.specs.ConfigOptions.{IsDrawn, config_or}
 use Rattle.mg_arguments.specs.Title.{title_line, title_text}
 use Rattle.mg_start.specs.Journal.{missed_after, start_lines, timeline_after}
 use Rattle.mg_start.specs.aids.Starting.{HasBegun, HasWritten, KeepsTimes, PassesTicks, missed_by, title_before, CanResume, CanStart}
@@ -51,20 +49,20 @@ found_lines None file bytes logged = tt
 found_lines (Some all) file bytes logged = ap (λ (known : Option (List ℕ)). option_map whole_lines known) logged
 
 -- For an empty journal, a configuration with drawn numbers is a valid choice.
-pub drawn_chosen : (text : Option (List ℕ)) (given : Given) (draws : Draws) (config chosen : Config)
-    → IfSome text (λ t. t ≡ []) → IsDrawn draws config chosen → IsChosen text given draws config chosen
-drawn_chosen None given draws config chosen empty drawn = inl drawn
-drawn_chosen (Some []) given draws config chosen empty drawn = drawn
-drawn_chosen (Some (byte ∷ text)) given draws config chosen empty drawn = absurd cc
+pub drawn_chosen : (text : Option (List ℕ)) (draws : Bool) (given : ConfigOptions) (config chosen : Config)
+    → IfSome text (λ t. t ≡ []) → IsDrawn draws given config chosen → IsChosen text draws given config chosen
+drawn_chosen None draws given config chosen empty drawn = inl drawn
+drawn_chosen (Some []) draws given config chosen empty drawn = drawn
+drawn_chosen (Some (byte ∷ text)) draws given config chosen empty drawn = absurd cc
 
 -- For a journal with lines and without an invalid seal, the configuration in its title is a valid choice if it agrees
 -- with the given options.
-pub agreed_chosen : (text : Option (List ℕ)) (given : Given) (draws : Draws) (config chosen : Config)
-    → IfSome text (λ t. t ≢ []) → Agrees given config chosen → IfSome text (λ t. StartsWith t (title_line chosen))
-    → IfSome text (λ t. (seals_of t).wrong ≡ None) → IsChosen text given draws config chosen
-agreed_chosen None given draws config chosen lines agrees titled sealed = inr agrees
-agreed_chosen (Some []) given draws config chosen lines agrees titled sealed = absurd (lines refl)
-agreed_chosen (Some (byte ∷ text)) given draws config chosen lines agrees titled sealed = (agrees, titled, sealed)
+pub agreed_chosen : (text : Option (List ℕ)) (draws : Bool) (given : ConfigOptions) (config chosen : Config)
+    → IfSome text (λ t. t ≢ []) → config_or given chosen ≡ chosen → IfSome text (λ t. StartsWith t (title_line chosen))
+    → IfSome text (λ t. (seals_of t).wrong ≡ None) → IsChosen text draws given config chosen
+agreed_chosen None draws given config chosen lines agrees titled sealed = inr agrees
+agreed_chosen (Some []) draws given config chosen lines agrees titled sealed = absurd (lines refl)
+agreed_chosen (Some (byte ∷ text)) draws given config chosen lines agrees titled sealed = (agrees, titled, sealed)
 
 -- If a known text was read to its end, the script is the whole text.
 read_whole : (text script : List ℕ) (rest : Option (List ℕ)) → HasRead (Some text) rest script true → text ≡ script

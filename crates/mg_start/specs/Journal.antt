@@ -44,7 +44,8 @@ Writes (call ∷ calls) lines = ⊥
 abbrev pub timeline_after : (text : List ℕ) → Timeline
 timeline_after text = timeline_of (reverse (unwrap_or (notes_of (journal_lines true text)) []))
 
--- The number of ticks that were missed between the end of the text and this date, or 0 if the date isn't known.
+-- The number of ticks that were missed between the end of the text and this date, or 0 if the date isn't known or the
+-- text has no date.
 abbrev pub missed_after : (text : List ℕ) → (millis : Option ℕ) → ℕ
 missed_after text None = 0
 missed_after text (Some millis) = missed_since (timeline_after text) (record { millis = millis })

@@ -1,5 +1,5 @@
 -- How a gateway starts: with a new core, or from its journal.
-use Rattle.std.specs.Prelude.{◌≡◌, ◌⊎◌, ℕ, List, [], ◌∷◌, ◌++◌, Option, Some, None, IfSome, IsSome}
+use Rattle.std.specs.Prelude.{◌≡◌, ◌⊎◌, ℕ, Bool, List, [], ◌∷◌, ◌++◌, Option, Some, None, IfSome, IsSome}
 use Rattle.std.specs.Prelude.{true, false}
 use Rattle.std.specs.Option.{option_map}
 use Rattle.std.specs.Io.{StartsWith}
@@ -21,10 +21,8 @@ use Rattle.mg_host.specs.HostCalls.{Grows, IsLogged}
 use Rattle.mg_options.specs.declared.status.Status.{Status}
 use Rattle.mg_options.specs.declared.status.Status.TheVariants.{Usage, Failed, NoMemory}
 use Rattle.mg_options.specs.declared.status.Status.TheVariants.{NoPort, BadJournal}
-use Rattle.mg_arguments.specs.declared.draws.Draws.{Draws}
-use Rattle.mg_arguments.specs.declared.given.Given.{Given}
-use Rattle.mg_arguments.specs.Draws.{IsDrawn}
-use Rattle.mg_arguments.specs.Given.{Agrees}
+use Rattle.mg_arguments.specs.declared.config_options.ConfigOptions.{ConfigOptions}
+use Rattle.mg_arguments.specs.ConfigOptions.{IsDrawn, config_or}
 use Rattle.mg_arguments.specs.Script.{HasScript}
 use Rattle.mg_arguments.specs.Title.{title_line}
 use Rattle.mg_start.specs.Journal.{Writes, missed_after, start_lines}
@@ -57,23 +55,26 @@ Finds (Some path) old new text =
 -- drawn. If it isn't, the journal's title states the configuration, which agrees with the given options, and no seal in
 -- the journal is invalid. If the journal's text isn't known, numbers may be drawn, or the configuration agrees with the
 -- given options.
-abbrev pub IsChosen : (text : Option (List ℕ)) → Given → Draws → (config chosen : Config) → Type 0
-IsChosen None given draws config chosen = IsDrawn draws config chosen ⊎ Agrees given config chosen
-IsChosen (Some []) given draws config chosen = IsDrawn draws config chosen
-IsChosen (Some (byte ∷ text)) given draws config chosen =
-    Agrees given config chosen × StartsWith (byte ∷ text) (title_line chosen)
+abbrev pub IsChosen : (text : Option (List ℕ)) → (draws : Bool) → ConfigOptions
+    → (config chosen : Config) → Type 0
+IsChosen None draws given config chosen =
+    IsDrawn draws given config chosen ⊎ (config_or given chosen ≡ chosen)
+IsChosen (Some []) draws given config chosen = IsDrawn draws given config chosen
+IsChosen (Some (byte ∷ text)) draws given config chosen =
+    (config_or given chosen ≡ chosen) × StartsWith (byte ∷ text) (title_line chosen)
     × ((seals_of (byte ∷ text)).wrong ≡ None)
 
--- The world in which a gateway is resumed that began in the world `base`, and the number that its messages have reached.
--- If the journal's script is known, exactly its events have happened in this world, and its notes reach this number.
+-- The world in which a gateway that began in the world `base` is resumed, and the number that its messages have
+-- reached. If the journal's script is known, exactly its events have happened in this world, and its notes reach this
+-- number.
 abbrev pub ResumesIn : (script : Option (List ℕ)) → (base w : World) → (reached : ℕ) → Type 0
 ResumesIn script base w reached =
     (events : List Event) × (sent : List Sent) × Run base events sent w
     × IfSome script (λ lines. (events_of (journal_lines true lines) ≡ Some events)
     × ((notes : List Note) × (notes_of (journal_lines true lines) ≡ Some notes) × Reaches 0 notes reached))
 
--- The text of the journal when a gateway starts: the text that was found or, for a new journal, the title of the
--- gateway's configuration, and then the lines that are appended before a gateway starts.
+-- The text of the journal when a gateway starts. First comes the text that was found or, for a new journal, the title
+-- of the gateway's configuration. Then come the lines that are appended before a gateway starts.
 abbrev pub started_text : Config → (missed : ℕ) → (fence : Option ℕ) → (found : List ℕ) → List ℕ
 started_text config missed fence [] = title_line config ++ start_lines missed fence
 started_text config missed fence (byte ∷ found) = (byte ∷ found) ++ start_lines missed fence

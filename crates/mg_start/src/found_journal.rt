@@ -181,8 +181,8 @@ fn write_fault<F: JournalFile>(journal: &FileJournal<F>) -> JournalFault {
 }
 
 impl<F: JournalFile> FoundJournal<F> {
-    /// Returns how many ticks have been missed since the end of the journal, according to the system's clock, or 0 if
-    /// the journal is new or the date isn't known.
+    /// Returns how many ticks have been missed since the end of the journal, according to the system's clock. Returns 0
+    /// if the journal is new or has no date, or if the system's date isn't known.
     fn missed<T: Dates>(&self, host: &mut T) -> u64
         ensures value { (millis : Option ℕ) × Grows (T.calls host.old) (T.calls host.new) (ReadDate millis ∷ [])
             × (result ≡ missed_by self.now.timeline millis) }

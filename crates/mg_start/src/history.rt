@@ -4,7 +4,7 @@ ghost use Rattle.mg_journal.specs.Text.{whole_lines};
 ghost use Rattle.mg_journal.specs.aids.Opened.{text_in};
 ghost use Rattle.mg_chain.specs.Seals.{seals_of};
 ghost use Rattle.mg_engine.specs.Config.{IsValidConfig};
-ghost use Rattle.mg_arguments.specs.Given.{Agrees};
+ghost use Rattle.mg_arguments.specs.ConfigOptions.{config_or};
 ghost use Rattle.mg_arguments.specs.Title.{title_line};
 ghost use Rattle.mg_start.specs.aids.Starting.{CanResume, may_be_title};
 
@@ -16,7 +16,7 @@ use crate::renewed::{is_renewed, run_renewed};
 use crate::resumed::Resumed;
 use crate::title::FRONT;
 use memchr::memchr;
-use mg_arguments::{ConfigFault, Given, titled};
+use mg_arguments::{ConfigFault, ConfigOptions, titled};
 use mg_chain::read_seals;
 use mg_core::{Config, Core, resume};
 use mg_dates::Timeline;
@@ -111,14 +111,14 @@ fn config_in<F: JournalFile>(
 }
 
 /// Checks that the configuration in a title is valid and agrees with the given options.
-fn check_config(given: &Given, wanted: &Config, config: &Config) -> Result<(), JournalFault>
+fn check_config(given: &ConfigOptions, config: &Config) -> Result<(), JournalFault>
     ensures sound { IfOk result (λ _. IsValidConfig config.now) }
-    ensures agrees { IfOk result (λ _. Agrees given.now wanted.now config.now) }
+    ensures agrees { IfOk result (λ _. config_or given.now config.now ≡ config.now) }
 {
     if let Some(fault) = ConfigFault::of(config) {
         return Err(JournalFault::BadConfig(fault));
     }
-    match given.first_difference(wanted, config) {
+    match given.first_difference(config) {
         Some(option) => Err(JournalFault::Differs(option)),
         None => Ok(()),
     }
@@ -204,8 +204,7 @@ where
 /// that. Sends nothing.
 pub(crate) fn find<F: JournalFile>(
     alloc: Global,
-    given: &Given,
-    wanted: &Config,
+    given: &ConfigOptions,
     opening: Opening<F>,
 ) -> Result<Found<F>, JournalFault>
 where
@@ -217,7 +216,7 @@ where
         IfSome opening.file.bytes (λ bytes. may_be_title bytes ≡ true)) }
     ensures lines { IfOk result (λ f. IsSome f.history → IfSome (text_in opening.file) (λ text. text ≢ [])) }
     ensures sound { IfOk result (λ f. IfSome f.history (λ h. IsValidConfig h.config)) }
-    ensures agrees { IfOk result (λ f. IfSome f.history (λ h. Agrees given.now wanted.now h.config)) }
+    ensures agrees { IfOk result (λ f. IfSome f.history (λ h. config_or given.now h.config ≡ h.config)) }
     ensures sealed { IfOk result (λ f. IsSome f.history →
         IfSome (text_in opening.file) (λ text. (seals_of text).wrong ≡ None)) }
     ensures titled { IfOk result (λ f. IfSome f.history (λ h.
@@ -232,7 +231,7 @@ where
             history: None,
         });
     };
-    check_config(given, wanted, &config)?;
+    check_config(given, &config)?;
     let opening = check_seals::<F, Brand>(alloc, opening)?;
     let resumed = run::<F, Brand>(alloc, config, opening)?;
     Ok(Found {

@@ -4,7 +4,7 @@ ghost use Rattle.mg_engine.specs.Config.{IsValidConfig};
 ghost use Rattle.mg_core.specs.World.{start_of};
 ghost use Rattle.mg_core.specs.aids.Stands.{StandsFor};
 ghost use Rattle.mg_journal.specs.aids.Opened.{text_in};
-ghost use Rattle.mg_arguments.specs.Draws.{IsDrawn};
+ghost use Rattle.mg_arguments.specs.ConfigOptions.{IsDrawn};
 ghost use Rattle.mg_start.specs.aids.Starting.{CanResume};
 ghost use Rattle.mg_start.specs.Start.{FailsToStart, Finds, IsChosen, Opens};
 
@@ -19,6 +19,7 @@ use mg_host::{Environment, Journals, System};
 use mg_journal::{JournalFile, Opening};
 use mg_options::Status;
 use std::io::{self, ErrorKind, Write};
+use std::random::RandomSource;
 
 /// A gateway and its journal, before the ports are bound and before anything is appended to the journal.
 #[derive(Drop)]
@@ -56,6 +57,19 @@ impl<F: JournalFile> Prepared<F> {
     }
 }
 
+/// Returns the configuration of a new gateway, for which numbers may be drawn at random. If the system has no random
+/// numbers, returns the system's error.
+fn configuration<G: RandomSource>(random: &G, requested: &Requested<'_>) -> io::Result<Config>
+    ensures drawn { IfOk result (λ config. IsDrawn requested.now.draws requested.now.service.now.given
+        requested.now.config config) }
+{
+    if requested.draws {
+        requested.service.given.draw(random, &requested.config)
+    } else {
+        Ok(requested.config)
+    }
+}
+
 /// Creates a new gateway. If that fails, reports the fault to `errors` and returns the program's exit status.
 fn new_gateway<E: Environment, F: JournalFile>(
     system: &System<'_, E>,
@@ -66,7 +80,8 @@ fn new_gateway<E: Environment, F: JournalFile>(
 where
     F: Drop,
     ensures sound { IfOk result (λ p. IsValidConfig p.config) }
-    ensures drawn { IfOk result (λ p. IsDrawn requested.entry.draws requested.entry.config p.config) }
+    ensures drawn { IfOk result (λ p. IsDrawn requested.entry.draws requested.entry.service.now.given
+        requested.entry.config p.config) }
     ensures start { IfOk result (λ p. StandsFor p.core.state (start_of p.config)) }
     ensures journal { IfOk result (λ p. IsSome opening → IsSome p.journal) }
     ensures file { IfOk result (λ p. option_map_or (λ j. text_in j.opening.file) p.journal (Some [])
@@ -81,7 +96,7 @@ where
         let _ = writeln!(errors, "{}: {fault}", RunFault::BadConfig);
         return Err(Status::Usage);
     }
-    let config = match requested.draws.draw(system.random, config) {
+    let config = match configuration(system.random, &requested) {
         Ok(config) => config,
         Err(error) => {
             let _ = writeln!(errors, "cannot draw random numbers: {error}");
@@ -119,8 +134,8 @@ where
     F: Drop,
     requires front { opening.read ≡ 0 }
     ensures sound { IfOk result (λ p. IsValidConfig p.config) }
-    ensures chosen { IfOk result (λ p. IsChosen (text_in opening.file) requested.entry.service.now.given
-        requested.entry.draws requested.entry.config p.config) }
+    ensures chosen { IfOk result (λ p. IsChosen (text_in opening.file) requested.entry.draws
+        requested.entry.service.now.given requested.entry.config p.config) }
     ensures resumed { IfOk result (λ p. CanResume (text_in opening.file)
         (option_map_or (λ j. j.timeline) p.journal None) p.config p.core.state p.reached) }
     ensures file { IfOk result (λ p. option_map_or (λ j. text_in j.opening.file) p.journal (Some []) ≡ text_in opening.file) }
@@ -128,12 +143,7 @@ where
     ensures quiet { OnOk result (errors.new ≡ errors.old) }
     ensures ends { IfErr result (FailsToStart requested.entry.config) }
 {
-    let found = match find(
-        system.alloc,
-        &requested.service.given,
-        &requested.config,
-        opening,
-    ) {
+    let found = match find(system.alloc, &requested.service.given, opening) {
         Ok(found) => found,
         Err(fault) => return Err(fault.report(path, errors)),
     };
@@ -193,7 +203,7 @@ pub fn prepare<E: Environment>(
         (λ status. Opens requested.entry.service.now.journal (E.Host.calls host.old) (E.Host.calls host.new)) }
     ensures sound { IfOk result (λ p. IsValidConfig p.config) }
     ensures chosen { IfOk result (λ p. IsChosen (option_map_or (λ j. text_in j.opening.file) p.journal (Some []))
-        requested.entry.service.now.given requested.entry.draws requested.entry.config p.config) }
+        requested.entry.draws requested.entry.service.now.given requested.entry.config p.config) }
     ensures resumed { IfOk result (λ p. CanResume (option_map_or (λ j. text_in j.opening.file) p.journal (Some []))
         (option_map_or (λ j. j.timeline) p.journal None) p.config p.core.state p.reached) }
     ensures found { IfOk result (λ p. IsSome requested.entry.service.now.journal → IsSome p.journal) }

@@ -1,4 +1,4 @@
-//! Journals that were renewed: behind the title, they begin with a checkpoint.
+//! Journals that were renewed: after the title, they have a checkpoint.
 
 ghost use Rattle.std.specs.Prelude.{◌≡◌, ◌≢◌, [], None, Some, IfOk, IfSome, OnOk};
 ghost use Rattle.std.specs.Io.KnownBytes.{Consumes};
@@ -23,7 +23,8 @@ use std::io::{BufRead, BufReader, Read};
 /// replies has about two million bytes.
 const CHECKPOINT_LIMIT: usize = 4_194_304;
 
-/// Returns whether the line behind a journal's title is the first line of a checkpoint.
+/// Returns whether a journal begins with the title of this configuration, and then with a line that begins like the
+/// first line of a checkpoint.
 pub(crate) fn is_renewed<F: JournalFile>(
     config: &Config,
     opening: &mut Opening<F>,
@@ -108,7 +109,7 @@ fn restore_front<R: BufRead>(
     }
 }
 
-/// Restores the gateway, and runs the events behind the checkpoint without sending anything.
+/// Restores the gateway, and runs the events after the checkpoint without sending anything.
 fn run_behind<R: Read>(
     alloc: Global,
     config: Config,
@@ -133,7 +134,7 @@ fn run_behind<R: Read>(
 }
 
 /// Runs a journal that was renewed, without sending anything: restores the gateway from the checkpoint, and runs the
-/// events behind it.
+/// events after it.
 pub(crate) fn run_renewed<F: JournalFile, K: FileKey>(
     alloc: Global,
     config: Config,

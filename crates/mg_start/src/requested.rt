@@ -1,4 +1,4 @@
-use mg_arguments::{Draws, Service};
+use mg_arguments::Service;
 use mg_core::Config;
 
 /// A gateway on sockets that an operator requests.
@@ -7,6 +7,6 @@ pub struct Requested<'a> {
     /// The configuration before any of its numbers are drawn.
     pub config: Config,
     pub service: &'a Service,
-    /// The numbers of a new gateway's configuration that are drawn at random.
-    pub draws: Draws,
+    /// Whether the initial numbers of a new gateway's RTP packets that no option sets are drawn at random.
+    pub draws: bool,
 }

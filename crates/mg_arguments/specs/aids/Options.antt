@@ -16,7 +16,8 @@ abbrev pub IsInvalid : OptionFault → Type 0
 IsInvalid (Invalid message) = Unit {0}
 IsInvalid NoMemory = ⊥
 
--- The paths are those that strings are read as. If there are none, a string is no path, or memory ran out.
+-- The paths are those that strings are read as. If there are no paths but a fault, a string is no path, or memory ran
+-- out.
 abbrev pub PathsAre : Result (List (List ℕ)) FilePathFault → Result (List (List ℕ)) OptionFault → Type 0
 PathsAre read (Ok paths) = read ≡ Ok paths
 PathsAre read (Err (Invalid message)) = (fault : FilePathFault) × (read ≡ Err fault)

@@ -8,8 +8,8 @@ returns-in-Err-clause-refused c =
 
 pub returns-in-Some-clause-run : goal.returns-in-Some-clause-run
 returns-in-Some-clause-run c =
-    check_is (rows_of (found_of c.args.matches.now)) c.in-Ok.address c.in-Some.gateway c.in-Ok.ensures.value
-    c.in-Some.ensures.value
+    check_is (rows_of (found_of c.args.matches.now)) c.in-Ok.address c.in-Some.gateway _ c.in-Ok.ensures.value
+    c.in-Some.ensures.value c.unwrap_or.ensures
 
 pub returns-in-None-clause-refused : goal.returns-in-None-clause-refused
 returns-in-None-clause-refused c =

@@ -1,14 +1,15 @@
 use Rattle.std.proofs.Common.{◌∙◌}
 use Rattle.clap.specs.Words.{found_of, rows_of}
 use Rattle.clap.proofs.WalkLemmas.{first_value-rows}
-use Rattle.mg_arguments.proofs.InvocationLemmas.{path_fails, path_is, unwritten}
+use Rattle.mg_arguments.specs.FilePath.{file_path}
+use Rattle.mg_arguments.proofs.InvocationLemmas.{unwritten, value_fails, value_is}
 use Rattle.mg_arguments.proofs.options.file_of.Goals as goal
 
 pub returns-in-Ok : goal.returns-in-Ok
 returns-in-Ok c =
     let found = found_of c.args.matches.now in
     record {
-      value = path_is c.args.name.now (rows_of found) c.in-Some.text.now c.in-Ok.path
+      value = value_is file_path c.args.name.now (rows_of found) c.in-Some.text.now c.in-Ok.path
           (c.in-Some.ensures ∙ first_value-rows found c.args.name.now) c.in-Ok.ensures.value;
     }
 
@@ -16,11 +17,11 @@ pub returns-in-Err : goal.returns-in-Err
 returns-in-Err c =
     let found = found_of c.args.matches.now in
     record {
-      value = path_fails c.args.name.now (rows_of found) c.in-Some.text.now c.in-Err.fault
+      value = value_fails file_path c.args.name.now (rows_of found) c.in-Some.text.now c.in-Err.fault
           (c.in-Some.ensures ∙ first_value-rows found c.args.name.now) c.in-Err.ensures.value;
     }
 
 pub returns-in-None : goal.returns-in-None
 returns-in-None c =
     let found = found_of c.args.matches.now in
-    record { value = unwritten c.args.name.now (rows_of found) (c.in-None.ensures ∙ first_value-rows found c.args.name.now) }
+    record { value = unwritten file_path c.args.name.now (rows_of found) (c.in-None.ensures ∙ first_value-rows found c.args.name.now) }

@@ -15,7 +15,7 @@ returns-in_default-clause-resumed g c =
 
 pub returns-clause-chosen : goal.returns-clause-chosen
 returns-clause-chosen g c =
-    agreed_chosen (text_in c.args.opening.file) c.args.requested.service.now.given c.args.requested.draws c.args.requested.config
+    agreed_chosen (text_in c.args.opening.file) c.args.requested.draws c.args.requested.service.now.given c.args.requested.config
     c.in-Some.history.config (rw c.in-Some.is at c.in-Ok.ensures.lines refl)
     (rw c.in-Some.is at c.in-Ok.ensures.agrees) (rw c.in-Some.is at c.in-Ok.ensures.titled)
     (rw c.in-Some.is at c.in-Ok.ensures.sealed refl)

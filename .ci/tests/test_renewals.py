@@ -1,11 +1,13 @@
 """Gateways that replace their journal with one that begins with a checkpoint."""
 import errno
 import re
+import subprocess
 import tempfile
+import threading
 from pathlib import Path
 
 from kernel import Kernel
-from programs import FIRST, Commands, Gateway, ports, udp, waiting
+from programs import FIRST, LIMIT, Commands, Gateway, ports, program, run, udp, waiting
 from seals import seal
 
 CONTROL = ("127.0.0.1", FIRST)
@@ -309,3 +311,51 @@ class Renewals(Commands):
             self.assertTrue(self.is_renewed(1))
             message = f"journal {self.journal}: in use by another gateway\n"
             self.ends(3, "", message, "serve", *ports(12, 2), "--journal", str(self.journal), text="quit\n")
+
+    def renewed(self):
+        """The old and the new journal of a gateway that renewed it once, as scripts, and the options of their title."""
+        with self.serving("--checkpoint-every=3") as gateway:
+            for number in range(1, 6):
+                self.assertTrue(self.ask(gateway, number))
+                gateway.stats("tick", "tick")
+            self.assertEqual(gateway.finish("quit")[::2], (0, ""))
+        texts = [re.sub("^ticks ([0-9]+)$", lambda it: "\n".join(["tick"] * int(it[1])), file.read_text(), flags=re.M)
+                 for file in (*self.kept(), self.journal)]
+        self.assertEqual(len(texts), 2)
+        return *texts, texts[1].partition("\n")[0].split()[2:]
+
+    def test_a_replay_begins_with_the_checkpoint(self):
+        """The old and the new file send what the whole history sends, and the same changes are reported."""
+        old, new, words = self.renewed()
+        tail = new.partition("\n# counted ticks\n")[2]
+        for shown in ([], ["--flows"]):
+            first, then, whole = (run(*words, *shown, text=it) for it in (old, new, old + tail))
+            self.assertEqual([it[::2] for it in (first, then, whole)], [(0, "")] * 3)
+            self.assertIn("Reply=5", then[1])
+            self.assertEqual(first[1] + then[1], whole[1])
+
+    def test_a_replay_names_the_line_of_a_fault(self):
+        old, new, words = self.renewed()
+        lines = new.splitlines(keepends=True)
+        output = run(*words, text=new)[1]
+        self.ends(1, output, f"line {len(lines) + 1}: bad script line\n", *words, text=new + "no line\n")
+        end = next(at for at, line in enumerate(lines, 1) if line.startswith("end after "))
+        others = [it.replace("--slots=8", "--slots=7") for it in words]
+        self.ends(1, "", "line 1: the title of a gateway with another configuration\n", *others, text=new)
+        self.ends(1, "", "line 3: bad checkpoint line\n", *words, text="".join([*lines[:2], "next\n", *lines[3:]]))
+        self.refuses(f"line {end}: ", *words, status=1, text="".join(lines[:end - 1]))
+        self.ends(1, "", "line 2: bad script line\n", *words, text=lines[0] + "checkpoint\n")
+        self.ends(1, "", "line 1: bad script line\n", *words, text=new.partition("\n")[2])
+        self.ends(0, "", "", *words, text=lines[0])
+
+    def test_a_replay_reads_no_further_than_a_line(self):
+        """A message is answered before the next line is read, behind a title as well."""
+        for title in (b"", b"# mg_bridge replay --slots=8\n"):
+            pipes = {it: subprocess.PIPE for it in ("stdin", "stdout")}
+            with self.subTest(title), subprocess.Popen([program("mg_bridge"), "replay"], **pipes) as replay:
+                end = threading.Timer(LIMIT, replay.kill)
+                end.start()
+                replay.stdin.write(title + b"control 127.0.0.1:1 %s\n" % request(1).hex().encode())
+                replay.stdin.flush()
+                self.assertTrue(replay.stdout.readline().startswith(b"say 127.0.0.1:1 "))
+                end.cancel()

@@ -28,7 +28,7 @@ use mg_core::RunFault;
 use mg_host::{Outside, System};
 use mg_options::{Status, program_arguments};
 use mg_outlet::{Outlet, OutletFault, Overflow, SystemPipe};
-use mg_program::{Ended, program};
+use mg_program::{Ahead, Ended, program};
 use std::io::{self, ErrorKind, Stderr, Write};
 use std::process::ExitCode;
 
@@ -55,7 +55,7 @@ fn run<'a, O: Write + Drop, E: Write + Drop>(
     };
     let outside = Outside {
         host: SystemHost::new(rt, rt),
-        input: rt.stdin(),
+        input: Ahead::new(rt.stdin()),
         output,
         errors,
         reports,

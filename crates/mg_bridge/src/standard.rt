@@ -1,5 +1,6 @@
 use crate::machine::SystemHost;
 use mg_host::Environment;
+use mg_program::Ahead;
 use std::io::{Stdin, Write};
 use std::marker::PhantomData;
 
@@ -19,7 +20,7 @@ impl<'a, O: Write + Drop, E: Write + Drop> Environment for Standard<'a, O, E> {
 
     type Host = SystemHost<'a, HostRuntime>;
 
-    type Input = Stdin;
+    type Input = Ahead<Stdin>;
 
     type Output = O;
 

@@ -7,3 +7,4 @@ pub mod OpenLemmas
 pub mod PageLemmas
 pub mod WatchedLemmas
 pub mod AudibleLemmas
+pub mod ResumeLemmas

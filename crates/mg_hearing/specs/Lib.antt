@@ -4,4 +4,5 @@ pub mod Files
 pub mod Heard
 pub mod Audible
 pub mod Watched
+pub mod Resumed
 pub mod aids

@@ -45,7 +45,7 @@ fn heard_at(fault: HeardFault, line: u64) -> HeardFault {
 }
 
 /// Returns the number of the line that a fault is about, if any.
-fn restoring_line(fault: RestoreFault) -> Option<u64> {
+pub(crate) fn restoring_line(fault: RestoreFault) -> Option<u64> {
     match fault {
         RestoreFault::BadLine(line) | RestoreFault::Refused(line) | RestoreFault::Differs(line) => {
             Some(line)
@@ -55,7 +55,7 @@ fn restoring_line(fault: RestoreFault) -> Option<u64> {
 }
 
 /// Returns a fault with another number of its line, if it is about a line.
-fn restoring_at(fault: RestoreFault, line: u64) -> RestoreFault {
+pub(crate) fn restoring_at(fault: RestoreFault, line: u64) -> RestoreFault {
     match fault {
         RestoreFault::BadLine(_) => RestoreFault::BadLine(line),
         RestoreFault::Refused(_) => RestoreFault::Refused(line),

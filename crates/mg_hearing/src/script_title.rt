@@ -11,7 +11,7 @@ use std::io::Read;
 
 /// Returns the configuration in the title on a script's first line, or `None` if the line isn't a title or memory runs
 /// out.
-fn config_in(alloc: Global, line: &[u8]) -> Option<Config>
+pub(crate) fn config_in(alloc: Global, line: &[u8]) -> Option<Config>
     ensures value { IfSome result (λ config. line.now ≡ title_line config) }
 {
     let text = line.strip_suffix(b"\n".as_slice())?;

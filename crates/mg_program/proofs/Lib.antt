@@ -3,3 +3,4 @@ pub mod PortLemmas
 pub mod FailLemmas
 pub mod DecisionLemmas
 pub mod RenewLemmas
+pub mod ReplayLemmas

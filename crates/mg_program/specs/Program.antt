@@ -1,5 +1,5 @@
 -- The effect of a run of the program. `EndsWith` in `mg_options` defines how the run ends, given its arguments.
-use Rattle.std.specs.Prelude.{◌≡◌, ◌⊎◌, ℕ, List, IsSome, Option}
+use Rattle.std.specs.Prelude.{◌≡◌, ◌⊎◌, ℕ, true, false, List, IsSome, Option}
 use Rattle.mg_clock.specs.Ticks.{ClockSeen}
 use Rattle.mg_host.specs.declared.host_call.HostCall.{HostCall}
 use Rattle.mg_options.specs.declared.status.Status.{Status}
@@ -15,7 +15,6 @@ use Rattle.mg_sealing.specs.Seal.{SealsInput}
 use Rattle.mg_options.specs.Status.{UnlessFault}
 use Rattle.mg_program.specs.Replay.{Replays}
 use Rattle.mg_program.specs.Serve.{ByClock, ByLines, Serves}
-use Rattle.mg_arguments.specs.Draws.{no_draws}
 use Rattle.mg_program.specs.Verify.{IsVerifiedFrom}
 
 -- A gateway was asked whether it answers, or asking it failed. If it doesn't answer, nothing is printed.
@@ -36,9 +35,9 @@ Runs remaining contents silent _ before after clock input rest old new (Replay c
     × (status ≡ Done → silent) × (after ≡ before)
 Runs remaining contents silent _ before after clock input rest old new (Serve config service) status =
     Serves (ByLines (remaining input) (remaining rest)) ((rest ≡ input) × (new ≡ old)) config
-    service no_draws (contents old) (contents new) before after status × (status ≡ Done → silent)
-Runs remaining contents _ _ before after clock input rest old new (Live config service draws late) status =
-    (rest ≡ input) × Serves (ByClock late clock) (new ≡ old) config service draws (contents old)
+    service false (contents old) (contents new) before after status × (status ≡ Done → silent)
+Runs remaining contents _ _ before after clock input rest old new (Live config service late) status =
+    (rest ≡ input) × Serves (ByClock late clock) (new ≡ old) config service true (contents old)
     (contents new) before after status
 Runs remaining contents silent _ before after clock input rest old new (Check gateway source) status =
     (rest ≡ input) × Checks old new status × (status ≡ Done → silent) × (after ≡ before)

@@ -11,8 +11,8 @@ use crate::live::live;
 use crate::replay::replay;
 use crate::serve::serve;
 use crate::verify::verify;
-use mg_arguments::{Draws, Invocation, requested_run};
-use mg_hearing::{audible, heard, watch};
+use mg_arguments::{Invocation, requested_run};
+use mg_hearing::{LookAhead, audible, heard, watch};
 use mg_host::{Environment, Outside, System};
 use mg_options::{Status, report_error};
 use mg_sealing::seal;
@@ -25,6 +25,8 @@ fn run<E: Environment>(
     outside: Outside<E>,
     invocation: &Invocation,
 ) -> Ended<E>
+where
+    E::Input: LookAhead,
     ensures runs { Runs E.Input.remaining E.Output.contents (result.outside.errors ≡ outside.errors)
         (Receives E.Errors.contents outside.errors result.outside.errors) (E.Host.calls outside.host)
         (E.Host.calls result.outside.host) (E.Host.stopped result.outside.host) outside.input result.outside.input
@@ -37,7 +39,6 @@ fn run<E: Environment>(
             Ended { outside, status }
         }
         Invocation::Serve(config, service) => {
-            let draws = Draws::none();
             let config = *config;
             serve(
                 system,
@@ -45,19 +46,19 @@ fn run<E: Environment>(
                 Requested {
                     config,
                     service,
-                    draws,
+                    draws: false,
                 },
             )
         }
-        Invocation::Live(config, service, draws, late) => {
-            let (config, draws) = (*config, *draws);
+        Invocation::Live(config, service, late) => {
+            let config = *config;
             live(
                 system,
                 outside,
                 Requested {
                     config,
                     service,
-                    draws,
+                    draws: true,
                 },
                 *late,
             )
@@ -130,12 +131,15 @@ fn run<E: Environment>(
 /// Some statuses are answers. For a question about a given time, 1 means that the talker could not be heard, and 2 that
 /// the script doesn't say. For any question about who could be heard, 2 also means that the gateway never had the
 /// talker or the listener in the question. A message then names who is missing. For rules, 1 means that the script
-/// breaks a rule. For a check of seals, 1 means that the text was changed, and 2 that the text has no seals.
+/// breaks a rule. For a check of seals, 1 means that a text was changed, or that a file doesn't follow the previous
+/// one. For a check of a single text, 2 means that the text has no seals.
 pub fn program<E: Environment, S: AsStr>(
     system: &System<'_, E>,
     outside: Outside<E>,
     words: &[S],
 ) -> Ended<E>
+where
+    E::Input: LookAhead,
     // The status says whether the program did what the arguments request and, if not, why.
     ensures ends { EndsWith
         (Runs E.Input.remaining E.Output.contents (result.outside.errors ≡ outside.errors)

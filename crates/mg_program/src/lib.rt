@@ -41,3 +41,4 @@ mod verify;
 pub use crate::ended::Ended;
 pub use crate::entry::program;
 pub use crate::receiving::SOCKETS;
+pub use mg_hearing::Ahead;

@@ -4,17 +4,17 @@ use mg_dates::DatedJournal;
 use mg_journal::Journal;
 use std::time::Clock;
 
-/// The number of ticks between two looks at the journal's file: one second.
+/// The number of ticks between two looks at the journal's file: one second's worth.
 const LOOK: u64 = 50;
 
-/// The number of ticks for which no renewal is tried after one that failed: one minute.
+/// The number of ticks for which no renewal is tried after one that failed: one minute's worth.
 const PAUSE: u64 = 3_000;
 
 /// The size in bytes beyond which the journal is renewed. A start with a journal of this size takes less than 0.1 s.
 const MAX_SIZE: u64 = 3_000_000;
 
 /// Decides when the journal is renewed: when it is large or broken, or when its path no longer leads to the whole
-/// journal. A number of messages can be set after which it is renewed, too.
+/// journal. If a number of messages is set, the journal is also renewed after that many messages.
 #[derive(Clone, Copy)]
 pub(crate) struct Renewals {
     /// The number of messages after which the journal is renewed; 0 means that their number doesn't matter.
@@ -39,7 +39,7 @@ impl Renewals {
         }
     }
 
-    /// Counts a message in lines, if they were appended. A message is always in a line by itself.
+    /// Counts a message in lines, if they were appended. A message is always appended by itself.
     pub(crate) fn count(&mut self, lines: &[u8], has_worked: bool)
         ensures pause { self.new.pause ≡ self.old.pause }
     {
@@ -48,7 +48,7 @@ impl Renewals {
         }
     }
 
-    /// Returns whether there were as many messages as were set.
+    /// Returns whether a number of messages is set and has been reached.
     fn has_messages(&self) -> bool {
         self.every > 0 && self.messages >= u64::from(self.every)
     }
@@ -62,7 +62,8 @@ impl Renewals {
 
     /// Counts a tick. Returns whether the journal is to be renewed now. Looks at the journal's file once a second.
     ///
-    /// None is tried for a minute, unless [`end`](Renewals::end) says that the renewal worked.
+    /// After a renewal is due, no other one is due for a minute, unless [`end`](Renewals::end) says that the renewal
+    /// worked.
     pub(crate) fn tick<J: Journal, C: Clock>(
         &mut self,
         journal: &mut DatedJournal<'_, J, C>,

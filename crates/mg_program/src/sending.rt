@@ -48,7 +48,6 @@ pub(crate) fn count_cause(sent: &Result<(), SendFault>, causes: &mut FailureCaus
 }
 
 /// Sends a datagram. A packet from a media socket isn't sent if its tick is late or its destination can't be used.
-/// Counts a failure by its cause.
 pub(crate) fn send_in_time<H: Sockets>(
     host: &mut H,
     timing: Timing,

@@ -8,7 +8,7 @@ use std::io::Write;
 
 /// Returns the exit status after a run.
 #[tactic(auto, unfolding(crate::specs::Status::status_of))]
-fn status_of(outcome: &Result<Counts, RunFault>) -> Status
+pub fn status_of(outcome: &Result<Counts, RunFault>) -> Status
     ensures value { result ≡ status_of outcome.now }
 {
     match outcome {

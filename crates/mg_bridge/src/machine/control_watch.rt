@@ -5,8 +5,8 @@ use std::time::{Clock, Duration};
 /// After a message has ended a wait, the next wait looks for messages only after this many milliseconds.
 const GAP_MS: u64 = 1;
 
-/// The system's monotonic clock. A datagram at a control socket ends a wait; otherwise a wait ends up to a millisecond
-/// late.
+/// The system's monotonic clock. A datagram at a control socket ends a wait. Otherwise, a wait can be up to a
+/// millisecond too long.
 ///
 /// After a datagram has ended a wait, the next wait doesn't look for messages during its first millisecond. So a flood
 /// of messages can end at most a thousand waits per second.
@@ -29,8 +29,9 @@ impl<'a, C: Clock> ControlWatch<'a, C> {
         }
     }
 
-    /// Waits for a datagram at a control socket, and returns whether one arrived. The system waits in whole
-    /// milliseconds, rounded up. If it can't wait for a datagram, the clock just waits.
+    /// Waits until a datagram arrives at a control socket, but no longer than this time. Returns whether a datagram
+    /// arrived. The system waits in whole milliseconds, rounded up. If it can't wait for a datagram, the clock waits
+    /// for the whole time.
     fn message_within(&mut self, time: Duration) -> bool {
         match self.poll.poll(&mut self.events, Some(time)) {
             Ok(()) => !self.events.is_empty(),

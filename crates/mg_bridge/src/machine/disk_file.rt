@@ -15,14 +15,14 @@ const MAX_SUFFIX: usize = 64;
 
 /// The file of a journal on the disk. Contracts say nothing about the file, so its behavior is tested, not proved.
 ///
-/// A sync has to put the file's name on the disk, too: otherwise, the path leads nowhere after a power cut, or to the
-/// file before a renewal. So a sync first syncs the folder if the file is new or was renamed.
+/// A sync has to put the file's name on the disk, too. Otherwise, after a power cut, the path may lead nowhere, or to
+/// the file before a renewal. So a sync first syncs the folder if the file is new or was renamed.
 #[derive(Drop)]
 pub struct DiskFile<'a> {
     system: &'a HostRuntime,
     path: Path,
     file: File,
-    /// Whether the file has been synced: with `--sync`, the text of a renewal is.
+    /// Whether the file has been synced, as the text of a renewal is with `--sync`.
     is_synced: bool,
     /// Whether the folder has to be synced before the file's name is known to be on the disk.
     is_named_later: bool,
@@ -77,8 +77,8 @@ fn open_locked(system: &HostRuntime, path: &str) -> io::Result<File> {
 impl<'a> DiskFile<'a> {
     /// Opens a file for reads and appends, and locks it. Creates the file if it doesn't exist.
     ///
-    /// Another gateway may have replaced the file after it was opened, and released the lock. In that case, the file is in
-    /// use as if it were still locked.
+    /// Another gateway may have replaced the file after it was opened, and released the lock. In that case, this fails
+    /// as if the file were still locked.
     pub fn open(system: &'a HostRuntime, path: &str) -> io::Result<Self> {
         let file = open_locked(system, path)?;
         let opened = DiskFile {
@@ -107,8 +107,8 @@ impl<'a> DiskFile<'a> {
         Ok(found.dev() == own.dev() && found.ino() == own.ino())
     }
 
-    /// Lets the path lead to the next file, which has this path. With `--sync`, the old file's other name is on the disk
-    /// before.
+    /// Makes the path lead to the next file, whose own path is `next`. With `--sync`, the old file's other name is put
+    /// on the disk first.
     fn rename(&self, next: &str, is_synced: bool) -> io::Result<()> {
         if is_synced {
             sync_folder(self.system, self.path.as_str())?;
@@ -168,7 +168,8 @@ impl<'a> JournalFile for DiskFile<'a> {
         Ok(self.has_name()? && self.file.metadata()?.len() == len)
     }
 
-    /// The new file is next to this one, and the same users may read it. One that an earlier gateway left is emptied.
+    /// The new file is next to this one, and has the same permissions. A file that an earlier gateway left there is
+    /// emptied.
     fn create_next(&mut self) -> io::Result<Self> {
         let path = beside(self.path.as_str(), "new")?;
         let file = open_locked(self.system, path.as_str())?;
@@ -203,9 +204,10 @@ impl<'a> JournalFile for DiskFile<'a> {
         }
     }
 
-    /// If the folder can't be synced after the path leads to the next file, it may lead to either file after a power cut.
-    /// Both hold everything that was answered so far, and without a power cut it leads to the next file. So the file was
-    /// replaced. But until the folder can be synced, each sync of the file fails, so no answer relies on the path.
+    /// If the folder can't be synced after the path leads to the next file, the path may lead to either file after a
+    /// power cut. Both files hold everything that was answered so far, and without a power cut, the path leads to the
+    /// next file. So the file was replaced. But until the folder can be synced, each sync of the file fails, so no
+    /// answer relies on the path.
     fn replace(&mut self, next: Self) -> io::Result<()> {
         let DiskFile {
             path,

@@ -3,10 +3,10 @@
 use super::equality::assert_equal;
 use super::free_ports;
 use crate::machine::SystemHost;
-use mg_arguments::Draws;
+use mg_arguments::ConfigOptions;
 use mg_core::Config;
 use mg_host::{Environment, Outside, System};
-use mg_program::{Ended, program};
+use mg_program::{Ahead, Ended, program};
 use std::cell::Cell;
 use std::io::{self, ErrorKind, Stdin};
 use std::marker::PhantomData;
@@ -77,7 +77,7 @@ impl<'a> Environment for Counted<'a> {
 
     type Host = SystemHost<'a, FailingClock>;
 
-    type Input = Stdin;
+    type Input = Ahead<Stdin>;
 
     type Output = Vec<u8>;
 
@@ -111,7 +111,7 @@ fn run_with<'a>(
     };
     let outside = Outside {
         host: SystemHost::new(rt, clock),
-        input: rt.stdin(),
+        input: Ahead::new(rt.stdin()),
         output: Vec::new(alloc),
         errors: Vec::new(alloc),
         reports: Vec::new(alloc),
@@ -124,15 +124,27 @@ fn run_with<'a>(
     }
 }
 
+/// Options of a configuration with this sequence number, and nothing else.
+fn with_sequence(sequence: Option<u16>) -> ConfigOptions {
+    ConfigOptions {
+        address: None,
+        control_address: None,
+        control_port: None,
+        base_port: None,
+        slots: None,
+        first_termination: None,
+        first_context: None,
+        ssrc: None,
+        sequence,
+        timestamp: None,
+    }
+}
+
 #[test]
 fn draws_the_numbers_that_no_option_gives(rt: HostRuntime) -> Result<(), Fail> {
-    for (sequence, wanted) in [(true, 1286), (false, 0)] {
-        let draws = Draws {
-            ssrc: true,
-            sequence,
-            timestamp: true,
-        };
-        let drawn = draws.draw(&Counting { works: true }, Config::default())?;
+    for (sequence, wanted) in [(None, 1286), (Some(0), 0)] {
+        let options = with_sequence(sequence);
+        let drawn = options.draw(&Counting { works: true }, &Config::default())?;
         let found = (drawn.ssrc, drawn.sequence, drawn.timestamp);
         assert_equal(&rt, found, (16909060, wanted, 117967114));
     }

@@ -37,3 +37,9 @@ BeginsWith config (Some text) base =
 
 abbrev pub IsBeginningOf : Start → World → Type 0
 IsBeginningOf start base = BeginsWith start.config (checkpoint_of start) base
+
+-- The title of a gateway with this configuration and a checkpoint of the base were read.
+abbrev pub LeavesBase : Config → World → (old new : Option (List ℕ)) → Type 0
+LeavesBase config base old new =
+    IsBase base × (base.gateway.config ≡ config) × (without_speech base ≡ base)
+    × Consumes old new (title_line config ++ checkpoint_text base)

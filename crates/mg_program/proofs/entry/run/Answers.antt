@@ -1,4 +1,4 @@
 use Rattle.mg_program.proofs.entry.run.Goals as goal
 
 pub returns-in-Serve : goal.returns-in-Serve
-returns-in-Serve g c = record { runs = rw c.in-Serve.is (rw c.none-draws.ensures.value at c.serve.ensures.value, c.serve.ensures.quiet) }
+returns-in-Serve g c = record { runs = rw c.in-Serve.is (c.serve.ensures.value, c.serve.ensures.quiet) }

@@ -13,8 +13,8 @@ use mg_core::{Core, Event, Follower, Stopped};
 use mg_heard::{Clock, ClockFault, HeardFault, OpenIntervals, Sink, tell_gap};
 use std::alloc::Global;
 
-/// The maximum number of ticks without another event: those of a day. Both gateways run each tick, so a line of a
-/// journal that counts more ticks would take too long.
+/// The maximum number of consecutive ticks: those of a day. Both gateways run each tick, so a line of a journal that
+/// counts more ticks would take too long.
 const MAX_TICKS: u64 = 4_320_000;
 
 /// Follows when a talker is audible, and reports each interval to a sink when the interval or the script ends. The

@@ -12,7 +12,7 @@
 //!
 //! If an interval contains a tick, the two gateways send the listener different bytes in that tick, and the talker's
 //! speech reaches the listener (`specs/Laws.antt`). If the bytes are equal, the talker could not be heard, was silent,
-//! or was too quiet to change the bytes.
+//! or spoke without an effect on the bytes, for example too quietly.
 //!
 //! Dates and gaps come from the script's comments, as in [`mg_heard`].
 #![tactic(auto)]

@@ -102,7 +102,7 @@ ends_held all before left hasher parts none holds =
     subst (λ (l : List ℕ). Holds256 hasher (last_part l))
     (sym (append-nil before) ∙ (ap (λ (l : List ℕ). before ++ l) (sym none) ∙ parts)) holds
 
--- At the end of the text, what was found is what links the whole text.
+-- At the end of the text, what was found satisfies `IsLinked` for the whole text.
 pub linked : (text rest : Option (List ℕ)) (hasher : Sha256) (seals : Seals) (found : Linked) (number : ℕ)
     → Reads text rest hasher seals number → IsAtEnd rest → found.seals ≡ seals
     → ((part : List ℕ) → Holds256 hasher part → found.end ≡ seal_end part)

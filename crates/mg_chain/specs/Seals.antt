@@ -47,8 +47,8 @@ IsSeal known line = (part : List ℕ) × (line ≡ seal_of part) × IfSome known
 abbrev pub IsSealEnd : Option (List ℕ) → List ℕ → Type 0
 IsSealEnd known end = (part : List ℕ) × (end ≡ seal_end part) × IfSome known (λ text. last_part text ≡ part)
 
--- The line says which text the lines behind it follow: it has the end of a seal of that text's last part. If `known`
--- has a value, the text is that value.
+-- The line says which text the lines after it follow: it has the end of a seal of that text's last part. If `known` has
+-- a value, the text is that value.
 abbrev pub IsFollowing : Option (List ℕ) → List ℕ → Type 0
 IsFollowing known line = (end : List ℕ) × IsSealEnd known end × (line ≡ codes "# follows " ++ end)
 
@@ -58,7 +58,7 @@ judged is_right number seals (Some first) = seals
 judged true number seals None = record seals { count = seals.count + 1; right = Some number }
 judged false number seals None = record seals { wrong = Some number }
 
--- The end of a line that says which text the lines behind it follow, if the line does.
+-- The end of a line that says which text the lines after it follow, or `None` for any other line.
 abbrev pub followed_in : List ℕ → Option (List ℕ)
 followed_in line =
     if starts_with nat_eq line (codes "# follows ") && length line == 75 then Some (drop 10 line) else None

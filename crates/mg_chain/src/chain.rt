@@ -10,7 +10,7 @@ use std::marker::Model;
 /// The beginning of a seal.
 pub const MARK: &[u8] = b"# sha256 ";
 
-/// The beginning of a line that says which text the lines behind it follow.
+/// The beginning of a line that says which text the lines after it follow.
 pub const FOLLOWS: &[u8] = b"# follows ";
 
 /// The number of digits in a seal.

@@ -23,7 +23,7 @@ fn has_end(line: &[u8], end: &[u8; END]) -> bool
     }
 }
 
-/// Returns the end of a line that says which text the lines behind it follow, or `None` for any other line.
+/// Returns the end of a line that says which text the lines after it follow, or `None` for any other line.
 fn followed_in(line: &[u8]) -> Option<[u8; END]>
     ensures value { result ≡ followed_in line.now }
 {

@@ -104,13 +104,13 @@ any_step p n x xs false true here is rest =
     rest ∙ grind (arith, nat_tests, fails)
 any_step p n x xs false false here is rest = rest
 
--- A number is among those of a list that pass a test if it is in the list and passes the test.
+-- A number is among the elements of a list that pass a test if and only if it is in the list and passes the test.
 any_filter : (p : ℕ → Bool) (n : ℕ) (xs : List ℕ)
     → list_any (λ m. m == n) (filter p xs) ≡ (list_any (λ m. m == n) xs && p n)
 any_filter p n [] = refl
 any_filter p n (x ∷ xs) = any_step p n x xs (p x) (eqb x n) refl refl (any_filter p n xs)
 
--- If two tests leave the same of a list, they agree on what is in the list.
+-- If a list has the same result when it is filtered by either of two tests, the tests agree on each number in the list.
 same_tests : (p q : ℕ → Bool) (n : ℕ) (xs : List ℕ) → filter p xs ≡ filter q xs → list_any (λ m. m == n) xs ≡ true
     → p n ≡ q n
 same_tests p q n xs same there =
@@ -120,7 +120,7 @@ same_tests p q n xs same there =
     let second : list_any (λ m. m == n) (filter q xs) ≡ q n = rw there at two in
     sym first ∙ ap (list_any (λ m. m == n)) same ∙ second
 
--- The talker's and the listener's records, and that the talker is another member of the listener's context.
+-- The listener's record, and the fact that the talker is another member of the listener's context.
 record AreTogether (w : Gateway) (talker listener : ℕ) : Type 0 where
   record_of : Record
   found : record_at w.rooms listener ≡ Some record_of
@@ -179,7 +179,8 @@ found_step f g s r so ro true here rest x y e h =
     ap f (sym (same_Some s x e)) ∙ here ∙ ap g (same_Some r y h)
 found_step f g s r so ro false here rest x y e h = rest x y e h
 
--- What agrees in order agrees for the record and the media with one number.
+-- Suppose `f` of the media equals `g` of the records, in order. Then this also holds for the media and the record that
+-- have the same number.
 found_together : {X : Type 0} (f : TerminationMedia → X) (g : Record → X) (ss : List TerminationMedia)
     (rs : List Record)
     → map (λ s. s.number) ss ≡ map (λ r. r.number) rs → map f ss ≡ map g rs
@@ -204,7 +205,7 @@ have_depths w base n r s at of =
     base.depths
     n s r of at
 
--- The records of which something is said.
+-- What is said of the terminations includes all their records, in order.
 records_said : (b : Gateway) (rs : List Record) (ss : List TerminationMedia)
     → map (λ s. s.number) ss ≡ map (λ r. r.number) rs
     → map (λ (t : SaidTermination). t.termination) (map (said_termination b) (zip rs ss)) ≡ rs

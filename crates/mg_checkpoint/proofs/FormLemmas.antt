@@ -1,5 +1,4 @@
--- Prefix codes: ways to write values so that what is written, with anything behind it, determines the value and what is
--- behind it.
+-- Prefix codes: ways to write values so that what is written, followed by any text, determines the value and that text.
 use Rattle.std.proofs.Common.{◌≡◌, ℕ, Bool, true, false, ◌&&◌, List, [], ◌∷◌, ◌++◌, refl, sym, ap, subst, ◌∙◌, append_assoc}
 use Rattle.std.proofs.lemmas.List.{append_cancel_left}
 use Rattle.std.proofs.lemmas.Bool.{false≢true}
@@ -121,8 +120,8 @@ stops_after f kind stops [] x h = h
 stops_after f kind stops (a ∷ xs) x h =
     ap (starts kind) (append_assoc (f a) (flat_map f xs) x) ∙ stops a (flat_map f xs ++ x)
 
--- Elements that begin with bytes of a kind, up to a text that doesn't. Each element is read up to a text that doesn't
--- begin with a byte of another kind, which may continue it.
+-- Elements that begin with bytes of the kind `opens`, up to a text that doesn't begin with such a byte. Bytes of the
+-- kind `goes_on` could continue an element, so no element and no text after the last one may begin with such a byte.
 pub many : {A : Type 0} (f : A → List ℕ) (opens goes_on : ℕ → Bool)
     → ((a b : A) (x y : List ℕ) → starts goes_on x ≡ false → starts goes_on y ≡ false → f a ++ x ≡ f b ++ y
     → (a ≡ b) × (x ≡ y))

@@ -1,4 +1,4 @@
--- The texts of addresses, laws, descriptors and modes determine these.
+-- The texts of addresses, laws, descriptors and modes determine what they stand for.
 use Rattle.std.proofs.Common.{◌≡◌, ℕ, ◌==◌, false, List, [], ◌∷◌, ◌++◌, codes, get_or, Option, Some, None, refl, sym, ap, ◌∙◌, append_assoc}
 use Rattle.std.proofs.lemmas.List.{append_cancel_left}
 use Rattle.std.specs.Prelude.{if◌then◌else◌}

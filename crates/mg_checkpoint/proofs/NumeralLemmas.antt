@@ -1,4 +1,4 @@
--- Decimal numbers without a bound: they determine their numbers, and have only digits.
+-- Decimal numerals without a bound: they determine their numbers, and have only digits.
 use Rattle.std.proofs.Common.{◌≡◌, ℕ, zero, suc, ◌+◌, ◌-◌, ◌*◌, ◌/◌, ◌%◌, ◌^◌, ◌<◌, Bool, true, false, cond, ◌&&◌, nat_le, List, [], ◌∷◌, decimal, refl, sym, ap, ◌∙◌, arith, eqb, pow-suc, eq-eqb, subst}
 use Rattle.std.proofs.lemmas.Bool.{false≢true}
 use Rattle.std.proofs.lemmas.Bool.Decides.{nat_tests}

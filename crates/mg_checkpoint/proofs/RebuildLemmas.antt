@@ -17,7 +17,7 @@ counts_with control ticks = record (counts_of no_events) { control = control; ti
 capped_twice : (n : ℕ) → capped n ≡ capped (capped n)
 capped_twice n = omega arith
 
--- Such counts are those of as many events as they say.
+-- If only control datagrams and ticks were counted, the counts equal those of as many such events as the counts say.
 pub counts_say : (x : Counts) (control ticks : ℕ)
     → x ≡ counts_of (record no_events { control = control; ticks = ticks })
     → x ≡ counts_of (record no_events { control = x.control; ticks = x.ticks })

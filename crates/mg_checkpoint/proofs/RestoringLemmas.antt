@@ -49,7 +49,7 @@ once false k some few = refl
 abbrev AreApart : List Record → Type 0
 AreApart rs = (n : ℕ) → count_by (λ v. v.number == n) rs ≤ 1
 
--- Each number has media with the depth of its record.
+-- The media and the record that a number finds have the same depth.
 abbrev DepthsByNumber : List TerminationMedia → List Record → Type 0
 DepthsByNumber ss rs = (n : ℕ) (r : Record) (s : TerminationMedia) → find (λ v. v.number == n) rs ≡ Some r
     → find (λ m. m.number == n) ss ≡ Some s → depth_of s.play ≡ r.depth
@@ -151,7 +151,7 @@ rebuilt_restores given state rebuilt quiet b w bs ws b_given w_given silent said
 
 -- ## Restored from a text
 
--- The two facts that `restore` ensures, for a state that saves the text that it was made from.
+-- The first two facts that `restore` ensures, for a state that saves the text that it was made from.
 pub restored_by_text : (given : Config) (state kept : CoreState) (text saved : List ℕ) → RepresentsBase given state
     → RestoresWorlds given state → kept ≡ state → ((w : World) → StandsFor kept w → saved ≡ checkpoint_text w)
     → saved ≡ text

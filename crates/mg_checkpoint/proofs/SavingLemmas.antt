@@ -23,7 +23,7 @@ five_parts o p q r s a b c d e f g h i = rw (i, h, g, f) (simp append_assoc)
 pub three_parts : (o p q r a b c : List ℕ) → p ≡ o ++ a → q ≡ p ++ b → r ≡ q ++ c → r ≡ o ++ ((a ++ b) ++ c)
 three_parts o p q r a b c e f g = g ∙ rw (f, e) (simp append_assoc)
 
--- The first two lines say these numbers.
+-- If the numbers are equal, the first two lines, which say them, are equal too.
 pub same_opening : (o : List ℕ) (a b c d v w x y : ℕ) → a ≡ v → b ≡ w → c ≡ x → d ≡ y
     → o ++ opening_lines a b c d ≡ o ++ opening_lines v w x y
 same_opening o a b c d v w x y e f g h = cc
@@ -56,7 +56,7 @@ said_short w [] ss = omega arith
 said_short w (r ∷ rs) [] = omega arith
 said_short w (r ∷ rs) (s ∷ ss) = omega (arith, said_short w rs ss)
 
--- What is said of as many terminations as there are is all that is said.
+-- If there are at most `n` terminations, what is said of the first `n` is all that is said.
 pub all_said : (w : Gateway) (n : ℕ) → length w.rooms.terminations ≤ n
     → take n (said_terminations w) ≡ said_terminations w
 all_said w n enough =
@@ -93,14 +93,14 @@ all_contexts w numbers n these enough =
 
 -- ## The last line
 
--- The line feeds of a text that was appended.
+-- The number of line feeds grows by that of the text that was appended.
 pub lines_of_body : (old body all : List ℕ) → all ≡ old ++ body
     → count_by (λ b. b == 10) all - count_by (λ b. b == 10) old ≡ count_by (λ b. b == 10) body
 lines_of_body old body all is =
     ap (λ text. count_by (λ b. b == 10) text - count_by (λ b. b == 10) old) is
     ∙ omega (arith, count-append (λ (b : ℕ). b == 10) old body)
 
--- The number of lines that the last line says.
+-- The last line says how many line feeds the text that was appended has.
 pub last_lines : (old body all : List ℕ) (olds alls : List ℕ) (before after lines : ℕ) → all ≡ old ++ body → olds ≡ old
     → alls ≡ all → before ≡ count_by (λ b. b == 10) olds → after ≡ count_by (λ b. b == 10) alls → lines ≡ after - before
     → lines ≡ count_by (λ b. b == 10) body

@@ -54,7 +54,7 @@ context_begins x z = refl
 reply_begins : (r : KeptReply) (z : List ℕ) → starts is_reply (reply_line r ++ z) ≡ true
 reply_begins r z = refl
 
--- Neither a termination's lines nor a reply's line begin like a context's, and a reply's line doesn't begin like a
+-- No line of a termination and no line of a reply begins like a context's, and no line of a reply begins like a
 -- termination's or a listener's.
 after_terminations : (kind : ℕ → Bool) → ((r : KeptReply) (z : List ℕ) → starts kind (reply_line r ++ z) ≡ false)
     → (s : Said) (x : List ℕ) → starts kind x ≡ false → starts kind (flat_map reply_line s.replies ++ x) ≡ false

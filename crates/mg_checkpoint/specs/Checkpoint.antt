@@ -9,7 +9,7 @@ use Rattle.mg_checkpoint.specs.aids.Text.{text_of}
 abbrev pub checkpoint_text : World → List ℕ
 checkpoint_text w = text_of (said_of w)
 
--- Equal texts say the same, whatever that is. So a reader need not know how lines are written.
+-- If the texts of two checkpoints are equal, they say the same. So a reader need not know how lines are written.
 abbrev pub TextsDetermineSaid : Type 0
 TextsDetermineSaid = (a b : Said) → text_of a ≡ text_of b → a ≡ b
 

@@ -16,7 +16,7 @@ fn common_len(one: &[u8], other: &[u8]) -> usize
     end
 }
 
-/// Compares a text with the checkpoint of the gateway that was made from it.
+/// Compares a text with the checkpoint of the gateway that was made from the text.
 pub fn compare(text: &[u8], saved: &[u8]) -> Result<(), RestoreFault>
     ensures same { OnOk result (saved.now ≡ text.now) }
 {

@@ -4,7 +4,7 @@ use crate::reply_line::ReplyLine;
 use crate::termination_line::TerminationLine;
 use std::alloc::Global;
 
-/// What the lines of a checkpoint say, before a gateway is made of them.
+/// What the lines of a checkpoint say, before a gateway is made from them.
 #[derive(Drop)]
 pub struct Draft {
     pub control: u64,
@@ -18,7 +18,7 @@ pub struct Draft {
 }
 
 impl Draft {
-    /// Returns a draft in which nothing was said yet. Doesn't allocate.
+    /// Returns an empty draft. Doesn't allocate.
     pub fn new(alloc: Global) -> Draft {
         Draft {
             control: 0,

@@ -5,7 +5,7 @@ use thiserror::Error;
 /// The reason why no gateway was restored. Lines are counted from 1.
 #[derive(Clone, Copy, Debug, PartialEq, Eq, Error)]
 pub enum RestoreFault {
-    /// A line that no checkpoint has.
+    /// A line that no checkpoint can contain.
     #[error("line {0}: bad checkpoint line")]
     BadLine(u64),
     /// A line that the other lines or the configuration don't allow.

@@ -1,6 +1,6 @@
 //! Checkpoints: the state of a gateway as text, with which another gateway goes on.
 //!
-//! [`save`] writes a few lines that anybody can read, and [`restore`] makes a gateway of them:
+//! [`save`] writes lines that anybody can read, and [`restore`] makes a gateway from them:
 //!
 //! ```rust
 //! let mut text = Vec::new(alloc);
@@ -26,13 +26,13 @@
 //!
 //! The line of a termination ends with its media: the timestamp of its last tick, the sequence number of its next
 //! packet, the packets and octets that it has sent, and whether its last tick sent a packet. The members of a context
-//! are in order of entry. A reply's text has the escapes of a script line. No line of a script begins with the first
-//! word of one of these lines.
+//! are in order of entry. A reply's text has the escapes of a script line. Checkpoint lines and script lines begin with
+//! different words.
 //!
 //! [`restore`] saves the gateway that it has made, and compares the bytes with the text. So it returns a gateway only
 //! if the text is exactly what that gateway writes. Its contract says that this gateway represents every world with
-//! this checkpoint, except for the speech (`specs/Checkpoint.antt`). [`theorems`] states that equal texts say the
-//! same, and `specs/Said.antt` has what they say.
+//! this checkpoint and the given configuration, except for the speech (`specs/Checkpoint.antt`). [`theorems`] states
+//! that equal texts say the same, and `specs/Said.antt` has what they say.
 #![tactic(auto)]
 
 mod comparing;

@@ -1,4 +1,4 @@
-//! The lines of a checkpoint. What is read is compared with what is written later, so the contracts say nothing.
+//! The lines of a checkpoint. What is read is later compared with what is written, so the contracts say nothing.
 
 use crate::context_line::ContextLine;
 use crate::draft::Draft;
@@ -29,7 +29,8 @@ fn read_next(line: &[u8], draft: &mut Draft) -> Option<()> {
     Some(())
 }
 
-/// Parses one of the first two lines, or passes over the last line, which says nothing of the gateway.
+/// Parses one of the first two lines, or passes over the last line or an empty line, which say nothing about the
+/// gateway.
 fn read_other(line: &[u8], at: u64, draft: &mut Draft) -> Result<(), RestoreFault> {
     let is_read = if line.starts_with(b"checkpoint ") {
         read_counts(line, draft).is_some()

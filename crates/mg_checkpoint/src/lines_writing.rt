@@ -40,7 +40,7 @@ pub fn put_closing_line(lines: u64, out: &mut Vec<u8>) -> Result<(), AllocError>
     put(b"lines\n", out)
 }
 
-/// Writes the line of a context.
+/// Writes the line of a context, or nothing if the context doesn't exist.
 #[tactic(auto, using(crate::proofs::WritingLemmas::steps))]
 pub fn put_context(rooms: &Rooms, number: u32, out: &mut Vec<u8>) -> Result<(), AllocError>
     ensures value { IfOk result (λ _. (x : Context) → context_at rooms.now number ≡ Some x → x.number ≡ number →

@@ -1,4 +1,4 @@
-//! The parts of a checkpoint's lines, from the front of a text. What is read is compared with what is written later, so
+//! The parts of a checkpoint's lines, from the front of a text. What is read is later compared with what is written, so
 //! the contracts say nothing.
 
 use arrayvec::ArrayVec;
@@ -37,7 +37,8 @@ pub fn numbered_8<'a>(label: &[u8], text: &'a [u8]) -> Option<(u8, &'a [u8])> {
     Some((u8::try_from(n).ok()?, rest))
 }
 
-/// Parses the names of terminations, up to the first text that is none, and to the limit on members.
+/// Parses the names of terminations, up to the first text that isn't such a name. Parses at most as many names as a
+/// context can have members.
 pub fn names(text: &[u8]) -> (ArrayVec<u32, MEMBERS>, &[u8]) {
     let mut numbers = ArrayVec::new();
     let mut rest = text;
@@ -61,7 +62,7 @@ fn law(text: &[u8]) -> Option<(Law, &[u8])> {
     }
 }
 
-/// Parses a Local or a Remote, or the word that says that there is none.
+/// Parses a label and a Local or a Remote, or the word that says that there is none.
 pub fn media<'a>(label: &[u8], text: &'a [u8]) -> Option<(Option<Chosen>, &'a [u8])> {
     let rest = text.strip_prefix(label)?;
     if let Some(rest) = rest.strip_prefix(b"none ".as_slice()) {
@@ -75,7 +76,7 @@ pub fn media<'a>(label: &[u8], text: &'a [u8]) -> Option<(Option<Chosen>, &'a [u
     Some((Some(Chosen { address, port, law }), rest))
 }
 
-/// Parses a mode and a space.
+/// Parses a label, a mode and a space.
 pub fn mode<'a>(label: &[u8], text: &'a [u8]) -> Option<(Mode, &'a [u8])> {
     let rest = text.strip_prefix(label)?;
     let (word, rest) = cut(b' ', rest)?;

@@ -47,7 +47,7 @@ pub fn put_closing(label: &[u8], n: u64, out: &mut Vec<u8>) -> Result<(), AllocE
     put(b"\n", out)
 }
 
-/// Writes the names of terminations, each with a space.
+/// Writes the names of terminations, each followed by a space.
 #[tactic(auto, using(crate::proofs::WritingLemmas::steps))]
 pub fn put_names(numbers: &[u32], out: &mut Vec<u8>) -> Result<(), AllocError>
     ensures value { IfOk result (λ _. out.new.items ≡ out.old.items ++ names numbers.now) }
@@ -65,7 +65,7 @@ pub fn put_mode(mode: Mode, out: &mut Vec<u8>) -> Result<(), AllocError>
     put(mode.as_str().as_bytes(), out)
 }
 
-/// Writes numbers, each behind a dot, and a colon.
+/// Writes numbers, each after a dot, and a colon.
 #[tactic(auto, using(crate::proofs::WritingLemmas::dots))]
 fn put_after_dots(numbers: &[u8], out: &mut Vec<u8>) -> Result<(), AllocError>
     ensures value { IfOk result (λ _. out.new.items ≡ out.old.items ++ after_dots numbers.now) }
@@ -131,7 +131,7 @@ fn put_word_escape(b: u8, out: &mut Vec<u8>) -> Result<(), AllocError>
     }
 }
 
-/// Writes bytes as a word and a space.
+/// Writes bytes as a word, and then a space.
 #[tactic(auto, using(crate::proofs::WritingLemmas::steps))]
 pub fn put_word(bytes: &[u8], out: &mut Vec<u8>) -> Result<(), AllocError>
     ensures value { IfOk result (λ _. out.new.items ≡ out.old.items ++ word bytes.now) }

@@ -82,7 +82,7 @@ fn mute_all(listeners: &[ListenerLine], engine: &mut Engine) -> Result<(), Resto
     Ok(())
 }
 
-/// The line with the next numbers.
+/// The number of the line with the next numbers.
 const NEXT_LINE: u64 = 2;
 
 /// Puts terminations, contexts and topology back.

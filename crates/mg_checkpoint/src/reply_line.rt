@@ -14,7 +14,8 @@ pub struct ReplyLine {
     pub text: Vec<u8>,
 }
 
-/// Parses text with escapes. Returns `Ok(None)` if the text has a bad escape, and fails only if memory runs out.
+/// Parses text with escapes. Returns `Ok(None)` if an escape is bad, and fails only if memory runs out. A backslash at
+/// the end is ignored.
 fn unescape(alloc: Global, text: &[u8]) -> Result<Option<Vec<u8>>, RestoreFault> {
     let mut bytes = Vec::new(alloc);
     let mut is_escaped = false;

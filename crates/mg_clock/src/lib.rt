@@ -12,7 +12,7 @@
 //! A step is a poll; each period of 20 ms has at least one. The last step of a period is also a tick ([`steps_due`]).
 //!
 //! [`Watch`] is a clock that can wait, and [`SystemWatch`] is the system's monotonic clock. Times are in nanoseconds
-//! since the start.
+//! since the clock's start.
 //!
 //! Contracts describe a clock by its readings and waits. These are known for a scripted clock, but not for the system
 //! clock.

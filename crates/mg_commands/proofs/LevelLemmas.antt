@@ -82,7 +82,8 @@ none_in_all : {X : Type 0} (p : Part → Bool) (g : X → List Part) → ((x : X
 none_in_all p g e [] = refl
 none_in_all p g e (x ∷ xs) = or_none p (g x) (flat_map g xs) (e x) (none_in_all p g e xs)
 
--- Some part in the joined list passes `p` if and only if some element passes `q`.
+-- If an element passes `q` exactly when one of its parts passes `p`, some part in the joined list passes `p` if and
+-- only if some element passes `q`.
 any_in_all : {X : Type 0} (p : Part → Bool) (g : X → List Part) (q : X → Bool) → ((x : X) → list_any p (g x) ≡ q x) →
     (xs : List X) → list_any p (flat_map g xs) ≡ list_any q xs
 any_in_all p g q e [] = refl

@@ -435,7 +435,7 @@ module _ (source : List ℕ) (a : Action) (old middle : EngineState) (before sai
             (rw kept stands.gateway) said_so,
       )
 
-  -- If all commands that are not optional succeeded, the properties of the action are applied.
+  -- If all commands that are not optional succeeded, the action ends with the outcome of its properties.
   pub action_finished : (new : EngineState) (reported closed : Answered) (is_done : Bool) → were_done ≡ true →
       ((w : Gateway) → StandsFor middle w → ReportsProperties new said reported is_done w
       (context_outcome source progress.made a.properties w progress.target)) → new.sums.work ≡ middle.sums.work →

@@ -160,7 +160,7 @@ by_bind : {A B E : Type 0} (P : Result B E → Type 0) (r : Result A E) (f : A �
 by_bind P (Ok x) f h e = h x
 by_bind P (Err y) f h e = e y
 
--- The item of a successful command has at least 9 bytes in its keyword and its termination's name.
+-- The keyword, the equals sign and the termination's name in the item of a successful command have at least 9 bytes.
 data IsLong (word : CommandWord) : CommandOutcome → Type 0 where
   done : (p : Gateway × Served) → 9 ≤ length (command_text word) + (1 + length p.1.term) → IsLong word (Ok p)
   failed : (e : ErrorNumber) → IsLong word (Err e)

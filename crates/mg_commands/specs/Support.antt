@@ -1,4 +1,4 @@
--- The supported keywords of commands. This is the project's choice.
+-- The supported commands, descriptors and properties. Which ones are supported is this project's choice.
 use Rattle.std.specs.Prelude.{ℕ, Bool, true, false, ◌==◌, ◌&&◌, List, Option, Some, None, codes}
 use Rattle.std.specs.Prelude.{is_some, if◌then◌else◌}
 use Rattle.std.specs.Str.{str_eq_ignore_ascii_case}

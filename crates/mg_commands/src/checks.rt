@@ -34,7 +34,8 @@ fn if_served(is_served: bool) -> Result<(), ErrorNumber>
     }
 }
 
-/// Returns the parameters that the descriptors request, or the first error in them.
+/// Returns the parameters that the descriptors request, or the error in them. A faulty descriptor outranks a fault in a
+/// stream's number or in a LocalControl.
 fn check_descriptors(
     source: &[u8],
     descriptors: &[Descriptor],
@@ -48,7 +49,7 @@ fn check_descriptors(
     }
 }
 
-/// Returns the parameters that a command requests, or the first error in its text.
+/// Returns the parameters that a command requests, or the error in its text.
 #[tactic(auto, using(crate::proofs::CheckLemmas::by_descriptors))]
 pub fn check_command(source: &[u8], command: &Command) -> Result<CommandParameters, ErrorNumber>
     ensures value { result ≡ check_command source.now command.now }

@@ -1,6 +1,6 @@
 //! Reads a command's descriptors in one walk, which finds the first fault and collects the command's parameters. The
 //! functions return a fault of a descriptor: a repeated word, or unsupported content. A fault in a stream's number or
-//! in a property is stored in the findings.
+//! in a LocalControl is stored in the findings.
 
 ghost use Rattle.std.specs.Prelude.{[], ◌∷◌};
 ghost use Rattle.std.specs.List.{flat_map};

@@ -63,7 +63,7 @@ impl Findings {
 
     /// Adds a part of a LocalControl as `add` does, unless it repeats a word. Returns the error if it does.
     ///
-    /// A message can contain about 2,000 properties, so a part that follows a fault is not even copied.
+    /// A message can contain thousands of properties, so a part that follows a fault is not even copied.
     pub fn add_control(
         &mut self,
         source: &[u8],

@@ -147,7 +147,8 @@ fn audit_termination(
     ))
 }
 
-/// Runs an AuditValue on the gateway as a whole. Reports only that the gateway exists.
+/// Runs an AuditValue on the gateway as a whole, which is allowed only in the null context. Reports only that the
+/// gateway exists.
 fn audit_root(target: Target) -> Result<Served, ErrorNumber>
     ensures value { result ≡ audit_root target }
 {

@@ -253,8 +253,8 @@ fn try_actions(engine: &mut Engine, source: &[u8], actions: &[Action], reply: &m
 /// Commands are tried in order, up to the first non-optional command that fails. A command for all members (`*`) is
 /// tried on every member, and fails if it fails for any member. If an optional command (`O-`) fails, the next commands
 /// are still tried. Unless a command has ended the action, its triples are then applied, all or none, and its audit is
-/// answered. An action that is rejected as a whole, before or after its commands, ends the request even if its commands
-/// are optional.
+/// answered. An action that is rejected as a whole, or whose properties are refused after its commands, ends the
+/// request even if its commands are optional.
 pub fn transaction(engine: &mut Engine, source: &[u8], request: &Request, reply: &mut Reply)
     requires proper { request_is_proper source.now request.now ≡ true }
     ensures ran { Leads StandsFor engine.old engine.new (λ w next. ((replied source.now request.now w).gateway ≡ next)

@@ -47,7 +47,8 @@ const MAX_AGE: u64 = 60_000;
 /// A seal (`mg_chain`) precedes the first date, and then a date about once a minute. A date that is earlier than that
 /// of the last seal gets a seal, too.
 ///
-/// A line that begins with `control` is a message; all other lines are `ticks` with a number.
+/// A line that begins with `control` is a message. All other lines are treated as ticks; only a line such as `ticks 12`
+/// has a number of them.
 #[derive(Drop)]
 pub struct DatedJournal<'a, J: Journal, C: Clock> {
     journal: J,

@@ -70,7 +70,7 @@ module _ (old new : Registry) (n : ℕ) (was : Record) (before after : List (Opt
     nobody = λ row room joined. nobody_left row room joined (eqb row was.slot) refl;
   }
 
--- In a new gateway, no row is joined to a room.
+-- If no row is joined to a room, the rows agree with a new gateway, which has no members.
 pub joined_nowhere : (w : Registry) (limits : Limits) (joined : List (Option ℕ)) → w ≡ start_of limits →
     ((row : ℕ) → room_of_row joined row ≡ None) → AreJoined w joined
 joined_nowhere w limits joined e none = record {

@@ -1,7 +1,7 @@
 -- Lookups in lists in which the item with a key changes.
 use Rattle.mg_engine.proofs.Common.{◌≡◌, ℕ, zero, suc, ◌<◌, ◌≤◌, length, get_or, eqb, not, Bool, true, List, [], ◌∷◌, ◌++◌, map, Option, Some, None, refl, ap, ◌∙◌, arith, count_by, option_to_list, option_map, map-append, change, find, filter, one, count-cons, count-found, count-push, counted_any, find-none, find-push_none, nat_tests, list_any_at}
 
--- If at most one item passes a test and the last item does, no item before it passes.
+-- If at most one item of a list passes a test, and the last item passes it, no earlier item does.
 pub none_before_last : {A : Type 0} (p : A → Bool) (xs : List A) (x : A) → p x ≡ true → count_by p (xs ++ x ∷ []) ≤ 1 →
     find p xs ≡ None
 none_before_last p xs x e few =

@@ -52,7 +52,7 @@ pub some_context : (o : Option Context) → is_some o ≡ true → (x : Context)
 some_context (Some x) h = (x, refl)
 some_context None h = absurd (cc h)
 
--- A member keeps its place if its context and seat are unchanged.
+-- If contexts keep their rooms, a member whose context and seat are unchanged keeps its place.
 carried : (old new : Registry) (m : ℕ) (r q : Record) (p : Place) → IsSound new → KeepsRooms old new →
     record_at new m ≡ Some q → q.context ≡ r.context → q.seat ≡ r.seat → IsOnPlace old m r p → IsOnPlace new m q p
 carried old new m r q p sound keeps found context seat on =
@@ -70,7 +70,8 @@ same_others old new n before after keeps others m r p apart =
       λ on. carried new old m r r p before back (sym (others m apart) ∙ on.found) refl refl on,
     )
 
--- A termination with a new record in the same context is still at the same place.
+-- If contexts keep their rooms and members their seats, a termination with a new record in the same context is still at
+-- the same place.
 pub stayed_at : (old new : Registry) (n : ℕ) (r q : Record) (p : Place) → IsSound old → Lasts old new →
     record_at old n ≡ Some r → q.context ≡ r.context → IsOnPlace new n q p → IsOnPlace old n r p
 stayed_at old new n r q p sound lasts was context on =

@@ -99,7 +99,7 @@ module _ (inside : Inside) (l : Record) (p : Place) (mask : ℕ) (whole : IsWhol
 
   -- ## The rows that are left out
 
-  -- A member whose seat is silenced talks.
+  -- A member whose seat is in the mask of silenced talkers talks.
   talks_there : (seat : ℕ) (n : ℕ) (r : Record) → IsTrue (has_seat mask seat) →
       IsOnPlace k.rooms n r (sibling_place p seat) → talks r.mode ≡ true
   talks_there seat n r h at = sym (whole.members.each n r (sibling_place p seat) at).talks

@@ -1,4 +1,4 @@
--- Datagrams at two ports have the same effect in either order. The last lemmas are about commands.
+-- Datagrams at two different ports have the same effect in either order. The last lemmas are about commands.
 use Rattle.mg_engine.proofs.Common.{ne_eqb, ◌≡◌, ◌≢◌, ℕ, eqb, Bool, true, false, ℤ, List, [], ◌∷◌, Option, Some, None, Result, Ok, Err, refl, sym, ap, ◌∙◌, arith, eqb-true, eq-eqb, same_Some, ErrorNumber, Header, Reading, Record, Target, change, slot_port, Taken, TopologyTriple, Arrived, Takes, arrived, at_port, frame_placed, taken_at, frame_placed_at, taken_by, Gateway, TerminationMedia, media_of, done_with, find, eqb-false, Registry, find-change_other, find-found, nat_tests, IsConsistent}
 use Rattle.mg_engine.specs.aids.Order.{ArrivalOrderIsIrrelevant}
 use Rattle.mg_engine.specs.Outcome.{apply_triples}
@@ -104,7 +104,7 @@ swap_by w (Some r) None s t x y apart = ((taken_by w (Some r) s x).0, refl, refl
 swap_by w (Some r) (Some d) s t x y apart =
     swap_taken w r.number d.number (arrived r s x) (arrived d t y) (apart r d refl refl)
 
--- ## A packet changes media alone
+-- ## A packet changes only media
 
 arrived_rooms : (w : Gateway) (n : ℕ) (x : Arrived) → (taken_at w n x).0.rooms ≡ w.rooms
 arrived_rooms w n (Ok p) = grind (arith, nat_tests)

@@ -22,7 +22,7 @@ pub starts_quiet : (k : EngineState) (config : Config) → StandsFor k (gateways
 starts_quiet k config h n r found =
     absurd (no_record r (sym found ∙ ap (λ w. record_at w n) (sym h.rooms)))
 
--- ## Gateways of which the same checkpoint is written
+-- ## Gateways with the same checkpoint
 
 numbers_kept : (ms : List TerminationMedia) → map (λ s. s.number) (map media_without_speech ms) ≡ map (λ s. s.number) ms
 numbers_kept [] = refl
@@ -83,7 +83,7 @@ quiet_engine k b w quiet h agree depths =
 
 -- ## A gateway that a quiet engine represents
 
--- Media for a termination, which has received nothing.
+-- Media for a termination that has received nothing.
 abbrev Chosen : EngineState → Record → Type 0
 Chosen k r = (s : TerminationMedia) × (s.number ≡ r.number) × HasNoSpeech r.depth s
     × IsMediaOf k.config (media_at k.media r.slot) (frame_of_row k.sums r.slot) s
@@ -115,7 +115,8 @@ module _ (k : EngineState) where
   chosen_numbers [] all = refl
   chosen_numbers (r ∷ rs) all = λ i. all.0.1 i ∷ chosen_numbers rs all.1 i
 
-  -- The termination whose media are found.
+  -- Chosen media that are found by a number belong to the termination with this number, and match what is stored in its
+  -- slot.
   chosen_for : (n : ℕ) (rs : List Record) (all : AllByRecursion (Chosen k) rs) (s : TerminationMedia) →
       find (λ s. eqb s.number n) (chosen_media rs all) ≡ Some s → (r : Record)
       × (find (λ r. eqb r.number n) rs ≡ Some r) × HasNoSpeech r.depth s

@@ -28,7 +28,7 @@ use Rattle.std.specs.List.{insert}
 
 -- ## Play lists
 
--- An empty list of places is as empty at another depth.
+-- A list of empty places that is resized still has only empty places.
 pub resized_empty : (n d : ℕ) → take d (empty_places n) ++ empty_places (d - n) ≡ empty_places d
 resized_empty zero zero = refl
 resized_empty zero (suc d) = let all : suc d - 0 ≡ suc d = omega arith in ap empty_places all
@@ -186,7 +186,8 @@ tick_at first timestamp lt same =
 packet_at : (first sequence : ℕ) → sequence < 2 ^ 16 → (p : ℕ) × (sequence ≡ (first + p) % 2 ^ 16)
 packet_at first sequence lt = (sequence + (2 ^ 16 - first % 2 ^ 16), omega (arith, lt))
 
--- The media of a slot that is restored are those of a termination that has received nothing.
+-- The media of a slot that is restored are those of a termination that has received nothing, if some tick has their
+-- timestamp.
 quiet_new : (config : Config) (depth : ℕ) (sent : SentMedia) → sent.timestamp < 2 ^ 32 → sent.sequence < 2 ^ 16 →
     is_tick_of config sent.timestamp ≡ true → (s : TerminationMedia) × HasNoSpeech depth s
     × IsMediaOf config (media_restored depth sent) silence s
@@ -214,7 +215,7 @@ quiet_new config depth sent few some tick =
       },
     )
 
--- The terminations of an engine have received nothing after one more is put back that has received nothing.
+-- A quiet engine is still quiet after a termination that has received nothing is put back.
 module _ (k : EngineState) (new : Registry) (flows : List RoomFlows) (kept : SumsState) (d : Record) (sent : SentMedia)
     (sound : IsSound new) (found : record_at new d.number ≡ Some d)
     (others : (m : ℕ) → m ≢ d.number → record_at new m ≡ record_at k.rooms m) (lt : d.slot < length k.media)
@@ -282,7 +283,7 @@ held_put old new d room rank held now h may is before at inserted =
     sym (place-at (λ r. r.number) (λ r. r.slot) d old.terminations h.terminations.rising) ∙
     ap (map (λ r. r.slot)) (sym rs)
 
--- The list of held slots has room for one more, and the new slot belongs within it.
+-- The list of held slots has room for one more slot, whose index is at most the list's length.
 pub insert_fits : (e : Inside) (new : Registry) (d : Record) (room rank : ℕ) → IsWholeEngine e →
     new ≡ restored e.rooms d room → IsSound new →
     rank ≡ count_by (λ r. nat_lt r.number d.number) new.terminations →

@@ -73,8 +73,8 @@ module _ {A : Type 0} (p : A → Bool) (z : ℤ) where
 
 -- ## Seats and the items in them
 
--- The sum over n seats is the sum over the items in these seats. Each item has a seat below n, no two items have the
--- same seat, and a seat without an item adds 0.
+-- Suppose that each item has a seat below n, that no two items have the same seat, and that a seat without an item adds
+-- 0. Then the sum over n seats is the sum over the items in these seats.
 pub seat_sums : {A : Type 0} (rs : List A) (is_in : A → Bool) (seat : A → ℕ) (n : ℕ) (h : ℕ → ℤ) (g : A → ℤ)
     → All (λ t. seat t < n) rs → All (λ t. g t ≡ cond (is_in t) (h (seat t)) (pos 0)) rs
     → ((s : ℕ) → count_by (λ t. is_in t && eqb (seat t) s) rs ≤ 1)

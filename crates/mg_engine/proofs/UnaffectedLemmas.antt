@@ -54,7 +54,7 @@ module _ (w next : Gateway) (c : ℕ) (context : context_at next.rooms c ≡ con
   alone : IsUnaffected w next c
   alone = assumption (hears_same, flows_same, total_same)
 
--- A gateway that has not changed is unaffected.
+-- In a gateway that has not changed, each context is unaffected.
 same_alone : (w : Gateway) (c : ℕ) → IsUnaffected w w c
 same_alone w c = alone w w c refl (λ n there. refl) (λ n there. refl) (λ a b one two. refl)
 
@@ -166,7 +166,7 @@ triples_alone w next target xs t c h done apart =
 
 -- ## Edits
 
--- If an edit succeeded, the command that it requests succeeded with the same gateway.
+-- If an edit succeeded, the command that it requests succeeded too, and both result in the same gateway.
 pub as_done : {A : Type 0} (f : A → Done) (o : Result (Gateway × A) ErrorNumber) (next : Gateway) (done : Done) →
     done_as f o ≡ Ok (next, done) → (x : A) × (o ≡ Ok (next, x))
 as_done f (Ok p) next done e = (p.1, grind (arith, nat_tests))

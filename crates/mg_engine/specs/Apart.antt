@@ -1,4 +1,5 @@
--- If a listener does not hear certain terminations, the packets to it do not depend on what those terminations receive.
+-- If a listener does not hear certain terminations, and is not one of them in Loopback, the packets to it do not depend
+-- on what those terminations receive.
 use Rattle.std.specs.Prelude.{◌≡◌, ℕ, ◌&&◌, true, false, List, map, Some, if◌then◌else◌}
 use Rattle.mg_words.specs.declared.stats.Stats.{Stats}
 use Rattle.mg_playout.specs.Playout.{first_list}
@@ -46,8 +47,9 @@ pub record HearsNone (some : List ℕ) (w : Gateway) (listener : ℕ) : Type 0 w
   pub others : (talker : ℕ) → has some talker ≡ true → flow w talker listener ≡ false
   pub own : (has some listener && hears_itself w listener) ≡ false
 
--- If two gateways agree outside some terminations, a tick of either sends the same packet, byte for byte, to a listener
--- that hears none of these terminations.
+-- Suppose that two gateways agree outside some terminations, and that a listener hears none of these terminations and
+-- is not one of them in Loopback. Then a tick of either gateway sends this listener the same packet, byte for byte, or
+-- none.
 abbrev pub SamePackets : Type 0
 SamePackets =
     (some : List ℕ) (a b : Gateway) (r : Record)

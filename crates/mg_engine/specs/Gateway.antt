@@ -25,7 +25,7 @@ pub record TerminationMedia : Type 0 where
   pub sent_last : Bool
 
 -- An edit of a context (RFC 3525, section 7.1.18): a member enters or leaves, or a triple is applied. A triple lists
--- the members that its two names matched at that time.
+-- the members that its two names matched when it was applied.
 pub data ContextEdit : Type 0 where
   Enter : (member : ℕ) → ContextEdit
   Leave : (member : ℕ) → ContextEdit

@@ -35,7 +35,7 @@ OwnSpeechChangesNoPacket =
     (w : Gateway) (frame : List ℤ) (r : Record) → hears_itself w r.number ≡ false
     → packet_of (with_frame w r.number frame) r ≡ packet_of w r
 
--- ## Isolated participants do not hear each other
+-- ## Isolated terminations do not hear each other
 
 -- Whether an edit keeps two terminations isolated: neither of them enters a context, and no triple mentions the two.
 abbrev pub leaves_isolated : ℕ → ℕ → ContextEdit → Bool

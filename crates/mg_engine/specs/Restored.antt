@@ -1,4 +1,4 @@
--- A gateway that was restored: it has what it had, except for the speech that it received.
+-- A restored gateway: it has everything that it had before, except for the speech that it received.
 use Rattle.std.specs.Prelude.{map}
 use Rattle.mg_playout.specs.Playout.{PlayList, depth_of, first_list}
 use Rattle.mg_playout.specs.Places.{empty_places}

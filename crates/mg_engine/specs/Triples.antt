@@ -14,7 +14,7 @@ use Rattle.mg_engine.specs.declared.topology_triple.TopologyTriple.{TopologyTrip
 use Rattle.mg_engine.specs.Gateway.{ContextEdit, Apply}
 use Rattle.mg_engine.specs.Flow.{has}
 
--- The maximum number of triples in an edit. A datagram cannot hold more.
+-- The maximum number of triples in an edit. A control datagram that is read cannot hold more.
 abbrev pub triple_limit : ℕ
 triple_limit = 1200
 

@@ -383,7 +383,8 @@ impl Engine {
         }
     }
 
-    /// Returns the context that an action's triples apply to, or the error if that context does not exist.
+    /// Returns the context that an action's triples apply to, or an error if the action doesn't name an existing
+    /// context by its number.
     ///
     /// Applying a topology without triples has the same result.
     pub fn topology_context(&self, target: Target) -> Result<u32, ErrorNumber>
@@ -644,7 +645,7 @@ impl Engine {
         fill(self, count, outbox);
     }
 
-    /// Ends a tick for all terminations. Their packets are already in the outbox.
+    /// Ends a tick for all terminations, and counts a packet for each one that sends.
     fn end_all(&mut self)
         ensures after { (w : Gateway) → StandsFor self.old w → StandsFor self.new (all_ended w) }
         ensures sums { self.new.sums ≡ self.old.sums }
@@ -854,7 +855,7 @@ fn play_slots(held: &[u8], media: &mut Vec<HeldMedia>, sums: &mut Sums) -> usize
     concealed
 }
 
-/// Ends a tick for the termination in a slot. If it sends, its packet is already in the outbox.
+/// Ends a tick for the termination in a slot and, if it sends, counts its packet.
 fn end_slot(rooms: &Rooms, media: &mut Vec<HeldMedia>, slot: u8)
     requires slot { slot < length media.old.items }
     ensures value { media.new.items ≡ slice_set media.old.items slot
@@ -864,7 +865,7 @@ fn end_slot(rooms: &Rooms, media: &mut Vec<HeldMedia>, slot: u8)
     media[usize::from(slot)].end_tick(is_sent);
 }
 
-/// Ends a tick for the terminations in these slots. Their packets are already in the outbox.
+/// Ends a tick for the terminations in these slots, and counts the packets of those that send.
 fn end_slots(rooms: &Rooms, held: &[u8], media: &mut Vec<HeldMedia>)
     requires slots { EachIndex held.now (λ i. slice_index_or held.now i 0 < length media.old.items) }
     requires apart { AreApart held.now }
@@ -893,7 +894,8 @@ fn conceals_in(media: &[HeldMedia], slot: u8) -> bool
     media[usize::from(slot)].conceals()
 }
 
-/// Returns the action's context with its room, or the error if that context does not exist.
+/// Returns the action's context with its room, or an error if the action doesn't name an existing context by its
+/// number.
 fn topology_room(rooms: &Rooms, target: Target) -> Result<TopologyRoom, ErrorNumber>
     requires sound { IsSound rooms.now }
     ensures value { MatchResult result

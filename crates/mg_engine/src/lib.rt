@@ -14,19 +14,20 @@
 //! total for each context, in [`Sums`]. It counts each row of 160 samples that is added to a total or subtracted from
 //! one ([`Engine::work`]). A mix counts as at least one row.
 //!
-//! A tick costs at most two rows for each termination. If a termination talks, its old frame is subtracted from the
-//! total, and its new frame is added. A packet whose payload is not shared costs one row (the total without the
-//! listener itself), plus one for each talker that the topology silences for the listener. In Loopback a termination is
-//! sent its own frame, which doesn't cost any rows. Two listeners in a context share a payload if they hear the same
-//! talkers and use the same law. The payload must be among the context's newest eight. `specs/Work.antt` has the proved
-//! bound for a tick. An edit costs at most four rows, and an RTP datagram costs none.
+//! In a tick, each termination's frame costs at most two rows. If a termination talks, its old frame is subtracted from
+//! the total, and its new frame is added, unless both are known to be silent. A packet whose payload is not shared
+//! costs one row (the total without the listener itself), plus one for each talker that the topology silences for the
+//! listener. In Loopback a termination is sent its own frame, which doesn't cost any rows. Two listeners in a context
+//! share a payload if they hear the same talkers and use the same law. The payload must be among the context's newest
+//! eight. `specs/Work.antt` has the proved bound for a tick. An edit costs at most four rows, and an RTP datagram costs
+//! none.
 //!
 //! [`Engine::skip`] runs many ticks without packets. Once all play lists are idle and all frames silent, the remaining
 //! ticks take one step. The cost of that step grows only with the number of terminations.
 //!
-//! A new engine can be filled with the terminations of another one: [`Engine::skip_to`], [`Engine::restore`] and
+//! A new engine can be filled with the terminations of another one, using [`Engine::skip_to`], [`Engine::restore`] and
 //! [`Engine::set_word`]. It then has everything that the other one had, except for the speech that was received
-//! (`without_speech` in `specs/Restored.antt`). [`theorems::quiet_engines_represent`] states when.
+//! (`without_speech` in `specs/Restored.antt`). [`theorems::quiet_engines_represent`] states the conditions.
 //!
 //! The engine keeps no history, so one state may represent several gateways. Its contracts hold for every `Gateway`
 //! (`specs/Gateway.antt`) that the state represents, before and after a call (`StandsFor` in `specs/aids/Stands.antt`).

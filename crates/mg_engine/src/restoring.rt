@@ -116,7 +116,7 @@ impl Engine {
     }
 }
 
-/// Returns the places of two different members of one context, or `None` if they aren't that.
+/// Returns the places of two terminations, or `None` if they aren't two different members of one context.
 fn places_of(rooms: &Rooms, talker: u32, listener: u32) -> Option<(Place, Place)>
     requires sound { IsSound rooms.now }
     ensures some { IfSome result (λ (p, q). ShareSome rooms.now talker listener p q) }

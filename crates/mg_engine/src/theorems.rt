@@ -127,18 +127,20 @@ pub fn agreement_lasts()
     one_reading(b"");
 }
 
-/// A packet depends only on what its listener hears, on the listener's ticks and packets so far, and on the gateway's
-/// configuration, terminations, contexts and edits.
+/// A packet depends only on what its listener hears (in Loopback, on its own speech), on the listener's ticks and
+/// packets so far, and on the gateway's configuration, terminations, contexts and edits.
 ///
 /// Suppose that two gateways differ only in what some terminations received, and that a listener hears none of those
-/// terminations. In a tick, both gateways then send this listener the same packet, byte for byte, or none.
+/// terminations and is not one of them in Loopback. In a tick, both gateways then send this listener the same packet,
+/// byte for byte, or none.
 pub fn packets_depend_on_heard()
     ensures theorem { PacketsDependOnHeard }
     ensures packets { SamePackets }
 {}
 
-/// A quiet engine represents every gateway that has the same checkpoint as a gateway that it represents, but without the
-/// speech that this gateway received.
+/// Suppose that a quiet engine represents a gateway b, and that a gateway w has the same checkpoint as b. Then the
+/// engine also represents w without the speech that w received. Each play list of w must have the depth in its
+/// termination's record.
 ///
 /// An engine is quiet if its terminations have received nothing. An engine without terminations is quiet.
 pub fn quiet_engines_represent()

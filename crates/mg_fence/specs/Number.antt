@@ -9,9 +9,9 @@ use Rattle.mg_core.specs.declared.parsed.Parsed.{Parsed}
 use Rattle.mg_core.specs.declared.parsed.Parsed.TheVariants.{Message, Refused}
 use Rattle.mg_core.specs.Parsed.{IsReadingOf}
 
--- The number in a message's sender name, which is split at its first dot. The part before the dot must be an angle
--- bracket, which begins a domain name, and a number. A letter must follow the dot. Otherwise the message has no number.
--- A datagram that is rejected as a whole has no number either.
+-- The number in a message's sender name, which is split at its first dot. The part before the dot must consist of an
+-- angle bracket, which begins a domain name, and the number. A letter must follow the dot. Otherwise the message has no
+-- number. A datagram that is rejected as a whole has no number either.
 abbrev pub number_in : List ℕ → Parsed → Option ℕ
 number_in bytes (Message m) = option_and_then (λ p.
     if slice_index_or p.0 0 0 == 60 && is_ascii_alphabetic (slice_index_or p.1 0 0)

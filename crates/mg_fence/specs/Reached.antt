@@ -17,7 +17,7 @@ abbrev pub number_reached : List ℕ → Option ℕ
 number_reached line =
     if bytes_eq (take 10 line) (codes "# reached ") then number_of (drop 10 line) else None
 
--- The number after a comment. An operator's number replaces the number, and a number that was reached raises it.
+-- The number after a comment. An operator's number replaces the number, and a higher number that was reached raises it.
 abbrev pub after_comment : (from : ℕ) → List ℕ → ℕ
 after_comment from line = unwrap_or (number_set line) (max from (unwrap_or (number_reached line) 0))
 

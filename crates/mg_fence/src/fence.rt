@@ -8,8 +8,8 @@ pub const HEARTBEAT: &[u8] = b"MEGACO/1 <check>\nTransaction=1{Context=-{AuditVa
 /// The message that acknowledges the heartbeat's reply, so that the gateway does not keep it.
 pub const ACKNOWLEDGEMENT: &[u8] = b"MEGACO/1 <check>\nTransactionResponseAck{1}";
 
-/// A fence against messages whose number is below `reached`: the number at which the fence began, or a higher number of
-/// a message that was run since.
+/// A fence against messages with a number below `reached`. That is the number at which the fence began or, if higher,
+/// the highest number of a message that has been run since.
 #[derive(Clone, Copy, Debug, PartialEq, Eq)]
 pub struct Fence {
     pub reached: u32,

@@ -7,9 +7,9 @@ use mg_core::{Core, Event, Follower, Stopped};
 use mg_words::number_of;
 use std::alloc::Global;
 
-/// Reads the number that a journal has reached: the number to which an operator set the fence last (0 if none did), or
-/// a higher number since then. Such a number is that of a message, or one that a comment says was reached. Stops if
-/// memory runs out.
+/// Reads the number that a journal has reached: the number to which an operator last set the fence (0 if none did) or,
+/// if higher, the highest number since then. Such a number is that of a message, or one that a comment says was
+/// reached. Stops if memory runs out.
 #[derive(Drop)]
 pub struct FenceReader {
     alloc: Global,

@@ -1,7 +1,7 @@
 //! Fencing tokens: a controller that has been replaced can't command the gateway with numbered messages any more.
 //!
 //! The name of a message's sender may begin with a number, as in `MEGACO/1 <17.lobby.example>`. A [`Fence`] stores the
-//! number at which it began, or a higher number of a message that was run since:
+//! number at which it began or, if higher, the highest number of a message that has been run since:
 //!
 //! ```rust
 //! let number = number_in(bytes, &parsed);

@@ -15,7 +15,7 @@ use Rattle.mg_flow.specs.Edits.{hears_in}
 use Rattle.mg_flow.specs.aids.Table.{RoomFlows, holds, hears, hears_after, StandsFor, StandsForSome}
 use Rattle.mg_flow.proofs.TableLemmas.{own_triples, hears-stands}
 
--- If two values are equal for each list of edits that the table represents, they are equal.
+-- If a table represents some list of edits, two values that are equal for each such list are equal.
 from_edits : (old : List RoomFlows) (x y : Bool) → StandsForSome old → ((es : List FlowEdit) → StandsFor old es →
     x ≡ y) →
     x ≡ y

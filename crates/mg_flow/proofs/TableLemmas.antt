@@ -133,7 +133,7 @@ edited table i r es es' within own quiet talkers listeners h = record {
   listeners = listeners;
 }
 
--- The next lemmas cover each edit: the old room is read, and the new room is written.
+-- The next lemmas are about an Enter, a Leave and a SetMode: the old room is read, and the new room is written.
 
 pub enter_stands : {table : List RoomFlows} {place : Place} {i s : ℕ} {old new : RoomFlows} {t l : Bool} →
     IsRead table place i s old

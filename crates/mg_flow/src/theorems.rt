@@ -34,9 +34,10 @@ pub fn edits_change_who_is_held()
         is_held (Apply room triple ∷ es) p ≡ is_held es p }
 {}
 
-/// One more edit can change the last word on two places in the same room.
+/// How one more edit changes the last word on two places in the same room.
 ///
-/// An Enter for either place removes the last word. A triple in their room that mentions them becomes the last word.
+/// An Enter for either place removes the last word. A triple in their room that mentions the pair becomes the last
+/// word. Other edits change nothing.
 pub fn edits_change_last_words()
     ensures enter { (es : List FlowEdit) (place a b : Place) (talks listens : Bool) → a.room ≡ b.room →
         may_hear (Enter place talks listens ∷ es) a b ≡

@@ -1,4 +1,4 @@
--- Loops that write a list in chunks and then write the remaining elements one by one.
+-- Lemmas about writing a list in chunks, or one element at a time.
 use Rattle.std.proofs.Common.{◌≡◌, ◌≢◌, ℕ, ℤ, pos, ◌+◌, ◌-◌, ◌*◌, ◌/◌, ◌<◌, ◌≤◌, inl, inr, suc, zero, List, [], length, map, get_or, drop, set, slice_index_or, ap, arith, sym, ◌∙◌, subst, get_or-set_same, get_or-set_other}
 use Rattle.std.specs.Simd.{first_chunks}
 use Rattle.std.proofs.lemmas.Bool.{cases_lt, cases_eq}
@@ -51,7 +51,7 @@ pub chunk_is : {X : Type 0} (n : ℕ) (chunks : List (List X)) (xs : List X) (d 
 chunk_is {X} n chunks xs d i j are l m = ap (λ (cs : List (List X)). get_or (get_or cs i []) j d) are ∙
     chunk_at n (length xs / n) xs d i j l m
 
--- If each element is f of the byte at its index, the list is the bytes mapped by f.
+-- If a list is as long as the bytes, and each element is f of the byte at its index, the list is the bytes mapped by f.
 pub mapped_is : (f : ℕ → ℤ) (bytes : List ℕ) (now : List ℤ) → length now ≡ length bytes →
     ((k : ℕ) → k < length bytes → slice_index_or now k (pos 0) ≡ f (get_or bytes k 0)) → now ≡ map f bytes
 mapped_is f bytes now long at =

@@ -58,7 +58,8 @@ count_step : (b : Bool) (x v k n a rest : ℕ) → ((b ≡ true) × (x ≤ v)) �
     cond b 1 0 + rest + a ≡ max a (min (k + 1) (a + suc n))
 count_step b x v k n a rest tells below above e = grind arith
 
--- Let f be at most v for exactly the numbers up to k. Then counting such numbers in a range counts the numbers up to k.
+-- Let f be at most v for exactly the numbers up to k. Then counting such numbers in a range counts the numbers of the
+-- range up to k.
 count_split : (f : ℕ → ℕ) (v k n a : ℕ) → ((j : ℕ) → j ≤ k → f j ≤ v) → ((j : ℕ) → k < j → j < a + n → v < f j) →
     count_by (λ j. nat_le (f j) v) (range_with_len a n) + a ≡ max a (min (k + 1) (a + n))
 count_split f v k zero a below above = omega arith

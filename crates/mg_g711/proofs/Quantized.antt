@@ -12,7 +12,7 @@ use Rattle.mg_g711.proofs.Growing.{grows}
 use Rattle.mg_g711.proofs.Levels.{least_of_grows, level_of_lies, magnitude_of_grows}
 
 -- Inverting the bits of A-law twice yields the same byte. By the lemmas below, the byte of a level and a sign decodes
--- to that level and sign.
+-- to the level's magnitude with this sign.
 inverted_twice : (k : ℕ) → k < 256 → bit_xor (bit_xor k 0x55) 0x55 ≡ k
 inverted_twice k h = eqb-true (bit_xor (bit_xor k 0x55) 0x55) k
     (holds_below (λ i. nat_eq (bit_xor (bit_xor i 0x55) 0x55) i) 256 refl k h)

@@ -8,6 +8,6 @@ pub record IsFrame (samples : List ℤ) : Type 0 where
   pub whole : length samples ≡ 160
   pub in_range : All (FitsSigned w16) samples
 
--- A sample halved toward zero.
+-- Half of a sample, rounded toward zero.
 abbrev pub halved : ℤ → ℤ
 halved sample = signed (int_lt sample (pos 0)) (unsigned_abs sample / 2)

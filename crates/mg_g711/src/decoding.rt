@@ -1,7 +1,7 @@
 //! Decoding, sixteen bytes at a time.
 //!
-//! A level is `16 * exponent + mantissa`, and a magnitude is a small number times a power of two. A vector lookup,
-//! which is one processor instruction, finds the power.
+//! A level is `16 * exponent + mantissa`. A magnitude is a small number times a power of two, minus the bias in mu-law.
+//! A vector lookup, which is one processor instruction, finds the power.
 
 ghost use Rattle.std.specs.Prelude.{◌≡◌, ℕ, ◌+◌, ◌<◌, ◌≤◌, length, slice_index, pos};
 ghost use Rattle.mg_g711.specs.Law.{sample_of};

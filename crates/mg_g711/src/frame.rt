@@ -38,7 +38,7 @@ pub fn encode_frame(law: Law, samples: &Frame) -> [u8; FRAME_LEN]
     bytes
 }
 
-/// Halves each sample of a frame toward zero, so that -1 becomes 0.
+/// Halves each sample of a frame, rounding toward zero, so that -1 becomes 0.
 pub fn halve_frame(samples: &Frame) -> Frame
     ensures each { result ≡ map halved samples.now }
     ensures frame { IsFrame result }

@@ -54,7 +54,7 @@ nil_left : (a b : List Event) → [] ≡ a ++ b → a ≡ []
 nil_left [] b h = refl
 nil_left (x ∷ a) b h = absurd cc
 
--- A beginning of a list with one more event `e` is either a beginning of the shorter list, or the whole list.
+-- A beginning of the list `events` with one more event `e` is either a beginning of `events`, or the whole list.
 cut_last : (past future events : List Event) (e : Event) → events ++ e ∷ [] ≡ past ++ future →
     ((rest : List Event) × (events ≡ past ++ rest)) ⊎ (past ≡ events ++ e ∷ [])
 cut_last [] future events e is = inl (events, refl)
@@ -96,7 +96,7 @@ first_at base keys [] future sent w is run has =
     sym (ap (λ (v : World). has_asked keys v.gateway) run.1) ∙ has
 first_at base keys (e ∷ past) future sent w is run has = absurd cc
 
--- If a termination has come before any event, the gateway began with it.
+-- If, before any event, the gateway has had a termination that the keys name, it began with such a termination.
 come_first : (base : World) (keys : Option (List PartyName)) → HasCome base [] keys →
     has_asked keys base.gateway ≡ true
 come_first base keys (past, future, sent, w, is, run, has) = first_at base keys past future sent w is run has
@@ -306,7 +306,7 @@ first_one base talker listener r h = record {
   );
 }
 
--- A new roll that was updated for the terminations with which the gateway began.
+-- A new roll, updated for the terminations with which the gateway began, records who is missing before any event.
 pub first_single : (base : World) (talker listener : Option (List PartyName)) (r : Roll) (rolls : List Roll) →
     rolls ≡ called base.gateway r ∷ [] → IsNew talker listener r → AreCalled base [] rolls rolls
 first_single base talker listener r rolls is h =
@@ -320,7 +320,8 @@ first_all base (rule ∷ rules) [] h = absurd h
 first_all base (rule ∷ rules) (r ∷ rolls) h =
     (first_one base rule.talker rule.listener r h.0, first_all base rules rolls h.1)
 
--- New rolls for rules, updated for the terminations with which the gateway began.
+-- New rolls for rules, updated for the terminations with which the gateway began, record who is missing before any
+-- event.
 pub first_for : (base : World) (rules : List Rule) (new rolls : List Roll) → rolls ≡ map (called base.gateway) new →
     AreFor rules new → AreCalled base [] rolls rolls
 first_for base rules new rolls is h =

@@ -38,9 +38,8 @@ abbrev pub IsToldAt : ℕ → ℕ → ℕ → List Interval → Type 0
 IsToldAt tick talker listener ys =
     Any (λ y. IsOfPair talker listener y × LiesIn tick y) ys
 
--- Before each tick, and before the tick that comes next after all events, a talker's speech flows
--- to a listener if and only if one of the intervals contains this tick for this pair. This is the
--- flow of the headline theorem.
+-- Before each tick, including the one that comes next after all events, a talker's speech flows to a listener if and
+-- only if one of the pair's intervals contains this tick. This is the flow of the headline theorem.
 abbrev pub TellsTheFlow : World → List Event → List Interval → Type 0
 TellsTheFlow base events ys =
     (past future : List Event) (sent : List Sent) (w : World) (talker listener : ℕ)

@@ -51,8 +51,8 @@ pub record IsKept (rules : List Rule) (base : World) (text : List ℕ) : Type 0 
 
 -- A script was read to its end, or until a rule was broken before one of its ticks. `found` is the first violation in
 -- the moments of what was read. So if `found` is `None`, the script was read to its end, and no rule forbids a flow
--- that is open in one of its moments. At most the last 4096 bytes that were read can contain a violation before a tick.
--- For each rule, `missing` says whether its talker or its listener never appeared in what was read.
+-- that is open in one of its moments. A violation before a tick can only be in the last 4096 bytes that were read. For
+-- each rule, `missing` says whether its talker or its listener never appeared in what was read.
 pub record IsWatched (rules : List Rule) (base : World) (input rest : Option (List ℕ))
     (found : Option Violation) (missing : List Missing) : Type 0 where
   pub front : List ℕ

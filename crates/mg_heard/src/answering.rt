@@ -21,8 +21,8 @@ use std::alloc::Global;
 use std::io::Read;
 
 /// Runs a script on a gateway in this state, and answers whether a listener could hear a talker at a given time.
-/// `query` selects the listeners and the talkers. Also returns whether the gateway never had such a talker or such a
-/// listener.
+/// `query` selects the listeners and the talkers. Also returns whether the gateway never had such a talker, and whether
+/// it never had such a listener.
 pub fn hear_at<R: Read>(
     alloc: Global,
     core: Core,

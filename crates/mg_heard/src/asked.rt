@@ -4,7 +4,7 @@ ghost use Rattle.mg_heard.specs.Asked.{asked_by};
 use crate::name::Name;
 use crate::party_name::PartyName;
 
-/// A key, or a name from a file of names, as given in a question.
+/// A key, or a name from a file of names, as given in a question or a rule.
 #[derive(Drop)]
 pub enum Asked {
     /// All terminations to which this key applies.

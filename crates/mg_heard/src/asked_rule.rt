@@ -19,7 +19,8 @@ pub struct AskedRule {
     pub listener: Option<Asked>,
 }
 
-/// Returns the parts of `text` before and after ` -> `. Returns `None` if the first `>` is not part of such an arrow.
+/// Returns the parts of `text` before and after ` -> `. Returns `None` if there is no `>`, or if the first `>` is not
+/// part of such an arrow.
 fn around_arrow(text: &[u8]) -> Option<(&[u8], &[u8])>
     ensures value { MatchOption result (around_arrow text.now ≡ None)
         (λ parts. around_arrow text.now ≡ Some (parts.0.now, parts.1.now)) }

@@ -4,7 +4,7 @@ ghost use Rattle.mg_heard.specs.aids.Opening.{key_of};
 
 use mg_core::Peer;
 
-/// A flow of speech from a talker to a listener. If the context or a Remote changes, another flow begins.
+/// A flow of speech from a talker to a listener. If the context or a Remote changes, a new flow begins.
 #[derive(Clone, Copy, Debug, Default, PartialEq, Eq)]
 pub struct OpenFlow {
     pub listener: u32,

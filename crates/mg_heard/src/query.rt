@@ -16,9 +16,9 @@ pub struct Query {
     pub listener: Option<Keys>,
     /// The talker, or `None` for any talker.
     pub talker: Option<Keys>,
-    /// Leaves out intervals and gaps that are known to end at this time or earlier.
+    /// If set, leaves out intervals and gaps that are known to end at this time or earlier.
     pub from: Option<Date>,
-    /// Leaves out intervals and gaps that are known to begin at this time or later.
+    /// If set, leaves out intervals and gaps that are known to begin at this time or later.
     pub until: Option<Date>,
 }
 

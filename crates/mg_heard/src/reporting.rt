@@ -57,9 +57,9 @@ fn hear_report<'a, R: Read, W: Write>(
 
 /// Writes who could hear whom while a script ran on a gateway in this state: a line for each interval and each gap that
 /// `query` selects. The line for an interval is written when the interval or the script ends. Returns the range of
-/// ticks from the first beginning to the last end of the selected intervals (all ticks if there is no such interval),
-/// the time that the script covers, and who is missing. A talker or a listener is missing if `query` names it and the
-/// gateway never had it.
+/// ticks from the first beginning to the last end of the selected intervals, or all ticks if there is no such interval.
+/// Also returns the time that the script covers, and who is missing. A talker or a listener is missing if `query` names
+/// it and the gateway never had it.
 pub fn write_report<R: Read, W: Write>(
     alloc: Global,
     core: Core,

@@ -46,7 +46,7 @@ Polls old new marks marked result =
     (sockets : List ℕ) × Grows old new (map Reported sockets ++ Poll (is_ok result) ∷ [])
     × IfSome new (λ all. marked ≡ mark_all sockets marks)
 
--- The calls that sessions made on their ports.
+-- The calls that sessions made on their ports, including those that they decided without asking the host.
 abbrev pub on_ports : List HostCall → List Call
 on_ports [] = []
 on_ports (OnPorts call ∷ calls) = call ∷ on_ports calls

@@ -117,7 +117,7 @@ chunk_of bytes whole at part is fits =
       λ more. omega (arith, more, length-drop k (drop at text), length-drop at text, length-take whole bytes),
     )
 
--- If the text has no mark from `from` on, neither has the same part of its rest from `at` on.
+-- If the text has no mark from `from` on, its rest from `at` on has no mark there either.
 later_of : (bytes : List ℕ) (whole at from : ℕ) (all : List ℕ) → at ≤ from → drop at (take whole bytes) ≡ all
     → has_mark (drop from (take whole bytes)) ≡ false → has_mark (drop (from - at) all) ≡ false
 later_of bytes whole at from all order parts none =

@@ -24,7 +24,7 @@ no_journal = record { text = None; synced = None; is_broken = true }
 abbrev pub text_to_seal : JournalState → Option (List ℕ)
 text_to_seal journal = if journal.is_broken then None else journal.text
 
--- Whether a fault breaks the journal, so that each later append fails.
+-- Whether a fault breaks the journal, so that each later append fails, until the journal is renewed.
 abbrev pub is_final : AppendFault → Bool
 is_final Refused = false
 is_final Broken = true

@@ -78,7 +78,7 @@ impl<F: JournalFile> FileJournal<F> {
         &self.file
     }
 
-    /// Returns the most recent file error that made an append fail, or `None` if there was no such error.
+    /// Returns the most recent file error that made an append or a renewal fail, or `None` if there was no such error.
     pub fn last_error(&self) -> Option<&io::Error> {
         self.last_error.as_ref()
     }

@@ -26,8 +26,8 @@ pub trait Journal {
     fn is_intact(&mut self) -> bool
         ensures same { journal self.new ≡ journal self.old };
 
-    /// Replaces the journal by another one with this text, which ends in a line feed. So a broken journal works again. The
-    /// old journal keeps a name that ends in the suffix. If that fails, nothing changes.
+    /// Replaces the journal by another one with this text, which ends in a line feed. So a broken journal works again.
+    /// The old journal keeps a name that ends in the suffix. If the call fails, the journal is unchanged.
     fn renew(
         &mut self,
         text: &[u8],

@@ -33,7 +33,7 @@ pub trait JournalFile {
         ensures same { file self.new ≡ file self.old }
         ensures empty { IfOk result (λ next. file next ≡ emptied (file self.old)) };
 
-    /// Gives the file another name, which ends in this suffix. So the file lasts after it was replaced.
+    /// Gives the file an additional name, which ends in this suffix. So the file still exists after it is replaced.
     fn keep(&mut self, suffix: &str) -> io::Result<()>
         ensures same { file self.new ≡ file self.old };
 

@@ -3,8 +3,8 @@
 //! See RFC 3525, section 8.2 and annex D.1.
 //!
 //! [`Kept`] stores the text of each reply under the request's number and the sender's name (ignoring case). At most 32
-//! replies are kept; a new reply then takes the place of the oldest. A sender that has received replies acknowledges
-//! their numbers, and the replies are dropped:
+//! replies are kept; when there are 32, a new reply takes the place of the oldest. A sender that has received replies
+//! acknowledges their numbers, and the replies are dropped:
 //!
 //! ```rust
 //! let mut kept = Kept::new(alloc)?;

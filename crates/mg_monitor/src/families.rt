@@ -105,7 +105,7 @@ fn put_fence<W: Write>(report: &TickReport<'_>, page: &mut Page<'_, W>) -> io::R
     page.counter("control_messages_stale_total", help, report.stale)
 }
 
-/// Writes the counts of answers and packets.
+/// Writes the counts of answers and packets, and of failed receives.
 fn put_sends<W: Write>(report: &TickReport<'_>, page: &mut Page<'_, W>) -> io::Result<()> {
     let help = "Answers and packets sent";
     page.counter("datagrams_sent_total", help, report.counts.sent)?;
@@ -151,7 +151,8 @@ pub fn put_journal<W: Write>(report: &TickReport<'_>, page: &mut Page<'_, W>) ->
     )
 }
 
-/// Returns a port's number and totals, or `None` if no termination has the port and no datagram has arrived at it.
+/// Returns a port's number and totals. Returns `None` if there is no such slot, or if no termination has the port and
+/// no datagram from an admitted sender has arrived at it.
 fn seen_port(report: &TickReport<'_>, ports: &[PortTotals], slot: u8) -> Option<(u16, PortTotals)> {
     let rooms = report.core.rooms();
     let port = rooms.port(slot)?;
@@ -162,7 +163,7 @@ fn seen_port(report: &TickReport<'_>, ports: &[PortTotals], slot: u8) -> Option<
     Some((port, totals))
 }
 
-/// Writes the metrics of each port that has a termination or at which a datagram has arrived.
+/// Writes the metrics of each port that has a termination or at which a datagram from an admitted sender has arrived.
 pub fn put_ports<W: Write>(
     report: &TickReport<'_>,
     ports: &[PortTotals],
@@ -196,7 +197,7 @@ fn put_terminations<W: Write>(
     Ok(())
 }
 
-/// Writes a counter for each port that has a termination or at which a datagram has arrived.
+/// Writes a counter for each port that has a termination or at which a datagram from an admitted sender has arrived.
 fn put_port_counter<W: Write>(
     counter: PortCounter,
     report: &TickReport<'_>,
@@ -212,8 +213,8 @@ fn put_port_counter<W: Write>(
     Ok(())
 }
 
-/// Writes, for each port that has a termination or at which a datagram has arrived, the time since it last accepted a
-/// packet, or since the start.
+/// Writes the time since each port last accepted a packet, or since the start. Includes only the ports that have a
+/// termination or at which a datagram from an admitted sender has arrived.
 fn put_silences<W: Write>(
     report: &TickReport<'_>,
     ports: &[PortTotals],

@@ -4,7 +4,7 @@ use mg_serve::JournalReport;
 #[derive(Clone, Copy, Debug, PartialEq, Eq)]
 pub struct JournalWatch {
     is_failing: bool,
-    /// Whether a message was dropped since the journal began to fail.
+    /// Whether a message has been dropped since the journal began to fail.
     has_dropped: bool,
     /// The number of messages that have been handled.
     messages: u64,
@@ -47,8 +47,9 @@ impl JournalWatch {
         ]
     }
 
-    /// Returns whether an append worked since the last tick, in which none failed. On a full disk, there may be room for
-    /// the line of some ticks, but not for a message. So after a message was dropped, only a message counts.
+    /// Returns whether an append has worked since the last tick, given that none has failed since. On a full disk,
+    /// there may be room for the line of some ticks, but not for a message. So after a message was dropped, only a
+    /// message counts.
     fn has_worked(&self, report: &JournalReport, messages: u64) -> bool {
         if self.has_dropped {
             return messages > self.messages;

@@ -6,17 +6,17 @@ const WINDOW: u16 = 64;
 
 /// Uses sequence numbers to count the RTP packets that were lost (RFC 3550, A.3).
 ///
-/// A packet counts as lost as soon as a packet with a sequence number at least 64 higher has arrived, or another stream
-/// begins. A stream begins with a packet that has another SSRC, or whose sequence number is far from the newest number:
-/// at least [`MAX_DROPOUT`] ahead, or more than [`MAX_MISORDER`] behind. So packets that are reordered within 64
-/// sequence numbers don't count as lost, and the count never falls.
+/// A packet that hasn't arrived counts as lost as soon as a packet with a sequence number at least 64 higher has
+/// arrived, or another stream begins. A stream begins with a packet that has another SSRC, or whose sequence number is
+/// far from the newest number: at least [`MAX_DROPOUT`] ahead, or more than [`MAX_MISORDER`] behind. So packets that
+/// are reordered within 64 sequence numbers don't count as lost, and the count never falls.
 #[derive(Clone, Copy, Debug, PartialEq, Eq)]
 pub struct Loss {
     ssrc: u32,
     newest: u16,
     /// A bit for each of the last 64 sequence numbers, set if its packet arrived. Bit 0 is for the newest number.
     arrived: u64,
-    /// The number of the last 64 sequence numbers that belong to the stream. It is 0 before the first packet.
+    /// How many of the last 64 sequence numbers belong to the stream: 0 before the first packet.
     known: u16,
     lost: u64,
 }

@@ -30,7 +30,7 @@ pub struct Metrics<'a, C: Clock, S: Sink + Drop> {
     clock: &'a C,
     sink: S,
     version: &'a str,
-    /// The clock's reading 20 ms before the first tick, if the clock could be read.
+    /// The clock's reading 20 ms before the first tick is due, if the clock could be read.
     start: Option<Duration>,
     /// The clock's reading when the current poll began, if the clock could be read.
     began: Option<Duration>,

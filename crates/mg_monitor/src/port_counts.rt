@@ -8,7 +8,7 @@ pub struct PortCounts {
     pub counts: Counts,
     /// RTP datagrams that were dropped because of their sender.
     pub strangers: u64,
-    /// Counts the packets that were lost since the start.
+    /// Counts the packets that have been lost since the start.
     loss: Loss,
     /// The number of packets that were lost up to the last report.
     lost_before: u64,
@@ -50,7 +50,7 @@ impl PortCounts {
         self.counts.concealed = self.counts.concealed.saturating_add(1);
     }
 
-    /// Returns the number of packets that were found to be lost since the last report.
+    /// Returns the number of packets that have been found to be lost since the last report.
     pub fn lost(&self) -> u64 {
         self.loss.lost().saturating_sub(self.lost_before)
     }

@@ -7,7 +7,7 @@ const TICKS: u64 = 50;
 /// The events at a media port since the start.
 #[derive(Clone, Copy, Debug, PartialEq, Eq)]
 pub struct PortTotals {
-    /// RTP datagrams that arrived.
+    /// RTP datagrams that arrived from admitted senders.
     pub packets: u64,
     /// Missing frames that were replaced by the previous frame.
     pub concealed: u64,

@@ -28,8 +28,7 @@ module _ (line of : App) (words : List Text) (is : line ≡ of) (is_simple_line 
   built_simple : is_simple line ≡ true
   built_simple = (and_parts (is_simple line) (is_free_app (built line)) simple).0
 
-  -- If the words have no fault by the command line `line`, they have no fault by `of` either, which is the same command
-  -- line.
+  -- If the words have no fault by the command line `line`, they have none by `of`, which is the same command line.
   pub no_fault : (is_simple_and_free line ≡ true → fault_of line words ≡ []) → fault_of of words ≡ []
   no_fault passes = ap (λ (l : App). fault_of l words) (sym is) ∙ passes simple
 

@@ -7,14 +7,14 @@ pub enum Status {
     Done,
     /// A script line or a seal is invalid.
     BadLine,
-    /// The arguments or a configuration are invalid.
+    /// An argument or a configuration is invalid.
     Usage,
     /// A gateway didn't answer.
     NoAnswer,
     /// A talker could not be heard at the given time.
     CouldNotHear,
-    /// A script doesn't cover the given time, or its gateway never had the talker or the listener in question, or a
-    /// text has no seals.
+    /// A script doesn't say who could hear whom at the given time, its gateway never had the talker or the listener in
+    /// question, or a text has no seals.
     Unknown,
     /// A script breaks a rule about who must not be heard.
     RuleBroken,

@@ -27,7 +27,8 @@ const FLUSH_CHUNKS: u16 = 256;
 /// caller for long.
 ///
 /// If the pipe fails, each later write, flush and [`finish`](Outlet::finish) returns the pipe's error, and nothing more
-/// is written. If a write was interrupted or would have waited, the outlet tries again later.
+/// is written. If a write to the pipe was interrupted, the outlet tries again. If a write would have waited, the outlet
+/// tries again later, except in `finish`: there, the pipe has failed.
 #[derive(Drop)]
 pub struct Outlet<P> {
     pipe: P,

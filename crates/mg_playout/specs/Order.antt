@@ -29,7 +29,7 @@ abbrev pub given_after : ℕ → PlayList → Played
 given_after zero list = (ticked list).1
 given_after (suc ticks) list = given_after ticks (ticked list).0
 
--- The frame that is played just before the frame at the place, or `None`.
+-- The frame that is due just before the frame at the place, or `None` if it is missing.
 abbrev pub frame_before : FramePlaces → Option (List ℤ) → ℕ → Option (List ℤ)
 frame_before places last zero = last
 frame_before places last (suc place) = frame_at places place

@@ -5,7 +5,7 @@ use Rattle.mg_playout.specs.declared.played.Played.{Played}
 use Rattle.mg_playout.specs.declared.played.Played.TheVariants.{Silence, Frame, Concealed}
 
 -- What is played, given the frame that is due and the last frame. A missing frame is replaced by the last frame, halved
--- toward zero, or by silence if there is no last frame.
+-- and rounded toward zero, or by silence if there is no last frame.
 abbrev pub given : Option (List ℤ) → Option (List ℤ) → Played
 given (Some frame) last = Frame frame
 given None (Some last) = Concealed (map halved last)
@@ -17,7 +17,7 @@ sound_of Silence = None
 sound_of (Frame frame) = Some frame
 sound_of (Concealed frame) = Some frame
 
--- The frame that is played if it was received in a packet, and otherwise `None`.
+-- The frame that is played, if it was received in a packet, and otherwise `None`.
 abbrev pub frame_from_packet : Played → Option (List ℤ)
 frame_from_packet Silence = None
 frame_from_packet (Frame frame) = Some frame

@@ -1,12 +1,12 @@
 //! The jitter buffer, called a play list: RTP frames in order of sequence number.
 //!
-//! A play list plays one frame in each tick of 20 ms.
+//! In each tick of 20 ms, a play list plays one frame or silence.
 //!
 //! A [`Playout`] has a place for each of the next sequence numbers (RFC 3550, section 5.1); the number of places is its
 //! depth. A frame is placed by its sequence number, no matter when it arrives. After the list starts, it waits half as
 //! many ticks as it has places (rounded down), so that late and reordered frames can still find their places. Then each
-//! tick plays the next frame, until none is left. A missing frame is replaced by the previous frame at half its level;
-//! if the next frame is missing too, silence is played.
+//! tick plays the next frame, until none is left. A missing frame is replaced by the previous frame at half its level,
+//! or by silence if the previous frame is missing, too.
 //!
 //! A frame starts the list if there is no sequence to continue: at the beginning, after the list runs empty (unless the
 //! frame is late), or when the source changes. A frame also starts the list if its number is at least [`MAX_DROPOUT`]

@@ -3,7 +3,7 @@
 pub(crate) enum Turn {
     /// The frame belongs at the first place, after a restart.
     Start,
-    /// The frame is late: its place has already been played.
+    /// The frame is late: the play list has already passed its place.
     Late,
     /// The frame is a duplicate: its place already has a frame.
     Again,

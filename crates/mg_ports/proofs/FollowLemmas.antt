@@ -12,7 +12,7 @@ some_end : (known : Option (List ℕ)) → (end : List ℕ) × IsSealEnd known e
 some_end None = (seal_end [], ([], refl, tt))
 some_end (Some text) = (seal_end (last_part text), (last_part text, refl, refl))
 
--- If nothing changed, `RenewsDated` holds of the fault.
+-- If nothing changed, `RenewsDated` holds for every fault.
 pub unchanged : (text : List ℕ) (durability : Durability) (state : JournalState) (fault : AppendFault)
     → RenewsDated text durability state state (Err fault)
 unchanged text durability state fault =

@@ -2,9 +2,10 @@
 //!
 //! Socket 0 is the control socket, and socket s + 1 is the media socket of slot s in the pool.
 //!
-//! [`Ports`] has the calls that a gateway needs. They receive a datagram without blocking, send a datagram, begin a
-//! tick, append lines to the journal, renew it, and count the failed receives and sends. [`FakePorts`] provides in-memory
-//! ports for tests. These return the datagrams that they were given, make chosen calls fail, and log each call.
+//! [`Ports`] has the calls that a gateway needs. They receive a datagram without blocking, send a datagram, and begin a
+//! tick. They append lines to the journal, say whether to renew it, and renew it. They also count the failed receives
+//! and sends. [`FakePorts`] provides in-memory ports for tests. These return the datagrams that they were given, make
+//! chosen calls fail, and log each call.
 //!
 //! ```rust
 //! let mut ports = FakePorts::new(alloc, waiting, failing);

@@ -1,4 +1,5 @@
--- No reply is a proper prefix of another, since a reply ends at the brace that closes its first opening brace.
+-- A reply whose names are valid is no proper prefix of another such reply, since it ends at the brace that closes its
+-- first opening brace.
 use Rattle.std.proofs.Common.{◌≡◌, ℕ, ◌*◌, suc, Bool, true, false, ◌&&◌, not, cond, nat_le, eqb, List, [], ◌∷◌, ◌++◌, length, map, Option, Some, None, refl, sym, ap, ◌∙◌, append_assoc, codes, decimal, slice_index}
 use Rattle.std.proofs.lemmas.Bool.{and_parts, and_from}
 use Rattle.std.proofs.lemmas.List.{append-nil}

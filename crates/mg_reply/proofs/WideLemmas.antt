@@ -67,7 +67,7 @@ unfolding weight
 weight-append [] ys = omega arith
 weight-append (x ∷ xs) ys = omega (arith, weight-append xs ys)
 
--- Whether an item is an entry of an action that is at least 10 bytes long with its comma.
+-- Whether an item is an action's entry that is at least 10 bytes long with its comma.
 abbrev is_part : Item → Bool
 is_part (Triple a b association) = nat_le 9 (length (item_text (Triple a b association)))
 is_part (Command word term outcome) = nat_le 9 (length (item_text (Command word term outcome)))
@@ -190,7 +190,7 @@ number-stays : (r : Answered) (xs : List Item) → (after_all r xs).number ≡ r
 number-stays r [] = refl
 number-stays r (x ∷ xs) = number-stays (after_put r x) xs ∙ put-number (is_action x && r.has_pending) (eqb r.room 0) r x
 
--- The reply has room for all items, and contains them all.
+-- The reply has room for all of these items, and contains them once they are put into it.
 abbrev AllKept : Answered → List Item → Type 0
 AllKept r xs = ((after_all r xs).is_long ≡ false) × ((after_all r xs).items ≡ r.items ++ xs)
 

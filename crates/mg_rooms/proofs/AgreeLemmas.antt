@@ -3,7 +3,7 @@ use Rattle.mg_rooms.proofs.Common.{◌≡◌, ℕ, ◌+◌, ◌≤◌, ◌&&◌,
 use Rattle.std.proofs.lemmas.Bool.Decides.{nat_tests}
 use Rattle.mg_rooms.proofs.CountLemmas.{one, one-false, count-cons, count-push}
 
--- The number of times that n is in a list.
+-- The number of times that n occurs in a list.
 abbrev pub times : ℕ → List ℕ → ℕ
 times n ms = count_by (λ m. m == n) ms
 

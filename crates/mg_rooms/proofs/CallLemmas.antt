@@ -36,7 +36,7 @@ find_free (true ∷ held) test k h =
     rw (← is) (find_free held test (k + 1) (λ i j eq lt. h (suc i) j (omega arith) (omega arith)))
 find_free (false ∷ held) test k h = grind (arith, h 0 k)
 
--- The first seat that is not held is the free seat.
+-- The first seat that is not held is the seat that `free_seat` returns.
 pub free_seat_is : (a : Inside) (c : ℕ) (held : List Bool) → length held ≡ MEMBERS
     → ((seat : ℕ) → seat < MEMBERS → get_or held seat true ≡
     list_any (passes_at (λ r. (r.context == c) && (r.seat == seat))) a.slots.items)
@@ -82,7 +82,7 @@ place_none a kept found =
 
 -- ## Writes
 
--- These predicates describe a table of terminations by slot, and a table of contexts by room. The functions replace the
+-- Predicates for a table of terminations by slot and for a table of contexts by room, and functions that replace the
 -- terminations or the contexts of a registry.
 abbrev pub AreSlots : ℕ → ℕ → List (Option Record) → Type 0
 AreSlots next size t = IsTable (λ r. r.number) (λ r. r.slot) next size t
@@ -96,8 +96,8 @@ with_terminations w rs = record w { terminations = rs }
 abbrev pub with_contexts : Registry → List Context → Registry
 with_contexts w xs = record w { contexts = xs }
 
--- These functions replace the terminations or the contexts of a registry after one of them is created, and increase the
--- next number.
+-- These functions replace the terminations or the contexts of a registry after a termination or a context is created,
+-- and increase the next number.
 abbrev pub with_more : Registry → List Record → Registry
 with_more w rs = record w { terminations = rs; next_termination = w.next_termination + 1 }
 
@@ -246,7 +246,7 @@ pub made_context_is : (a : Inside) (c room n : ℕ) (v : List ℕ) → HasTables
     in_order (λ y. y.number) a.rooms.items ++ (record { number = c; room = room; members = n ∷ [] } ∷ [])
 made_context_is a c room n v kept free number is = grind (arith, made_is a)
 
--- The entry of a room is empty if and only if no context is in the room.
+-- The entry of a room is the context in this room, or empty if no context is in the room.
 pub at_room_is : (a : Inside) (s : ℕ) (o : Option Context) → HasTables a → s < length a.rooms.items →
     o ≡ get_or a.rooms.items s o → o ≡ find (λ x. x.room == s) ((registry_of a).contexts)
 at_room_is a s o kept lt at =

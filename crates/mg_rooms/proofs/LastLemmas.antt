@@ -52,7 +52,8 @@ record_entered w place n made m = ap (λ (rs : List Record). find (λ x. x.numbe
 
 -- ## Contexts
 
--- A context that exists after a change existed before it, in the same room.
+-- If a change keeps the numbers and the rooms of contexts, each context that exists after it existed before, in the
+-- same room.
 changed_room : (d c : ℕ) (f : Context → Option Context) (xs : List Context) (y : Context) →
     ((z : Context) → Keeps z (f z)) → count_by (λ z. z.number == d) xs ≤ 1 →
     find (λ z. z.number == c) (change (λ z. z.number) d f xs) ≡ Some y →

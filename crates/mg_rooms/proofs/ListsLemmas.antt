@@ -31,7 +31,8 @@ terminations-push limits next rs r h is number slot seat = record {
       grind (arith, nat_tests, eqb-true r.context c, eqb-true r.seat s, seat, h.one_seat c s);
 }
 
--- The terminations remain valid when a termination changes without taking a seat that another termination holds.
+-- The terminations remain valid when one of them changes within the limits, keeps its slot, and takes no seat that
+-- another termination holds.
 pub terminations-changed : (limits : Limits) (next : ℕ) (rs : List Record) (old r : Record) →
     AreTerminations limits next rs → find (λ x. x.number == r.number) rs ≡ Some old → IsTermination limits next r →
     r.slot ≡ old.slot

@@ -48,7 +48,8 @@ sound_if w h = record {
   once = λ c n. members_once w c n h;
 }
 
--- The registry after a successful command: r is the termination n, and only the contexts c and d have changed.
+-- The registry after a successful command, in which r is the termination n. All other terminations are unchanged, and
+-- so are all contexts except c and d.
 pub record Leaves (w after : Registry) (n c d : ℕ) (r : Record) : Type 0 where
   pub sound : IsSound after
   pub own : record_at after n ≡ Some r
@@ -81,7 +82,7 @@ modify_leaves w after target n settings d h outcome =
     leaves w after n d.context d.context d (modify_sound w after n d h a)
     (rw a.is (own_replaced w n d a.old h a.at a.number)) (modify_lasts w after n d h a)
 
--- After a successful Move, only the old context and the new context have changed.
+-- A successful Move changes only the termination, the context that it leaves and the context that it enters.
 pub move_leaves : (w after : Registry) (target : Target) (n : ℕ) (settings : Settings) (d old : Record) →
     IsConsistent w → record_at w n ≡ Some old → move_to w target n settings ≡ Ok (after, d) →
     Leaves w after n old.context d.context d

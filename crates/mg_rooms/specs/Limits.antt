@@ -8,11 +8,11 @@ use Rattle.mg_rooms.specs.declared.limits.Limits.{Limits}
 abbrev pub slot_port : Limits → ℕ → ℕ
 slot_port limits slot = limits.base_port + 2 * slot
 
--- The slot with a UDP port.
+-- The slot with this UDP port, or `None` if no slot has it.
 abbrev pub slot_at : Limits → ℕ → Option ℕ
 slot_at limits port = find (λ slot. slot_port limits slot == port) (range_with_len 0 limits.slots)
 
--- There is at least one slot, there are not too many slots, and each slot has an even UDP port.
+-- There is at least one slot, the limit on terminations is not exceeded, and each slot has an even UDP port.
 pub record HasPool (limits : Limits) : Type 0 where
   pub some_slot : 0 < limits.slots
   pub few_slots : limits.slots ≤ termination_limit

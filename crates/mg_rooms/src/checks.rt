@@ -126,7 +126,8 @@ impl Tables {
         }
     }
 
-    /// Returns the place where a termination enters the action's context, or an error if the termination can't enter.
+    /// Returns the place where a termination enters the action's context. Returns an error if the context is full,
+    /// can't be created, or is the null context. `may_enter` checks whether the context exists.
     pub(crate) fn new_place(&self, target: Target) -> Result<EntryPlace, ErrorNumber>
         ensures value { result ≡ new_place self.now target }
         ensures can { IfOk result (CanEnter self.now) }

@@ -130,7 +130,7 @@ impl Rooms {
         }
     }
 
-    /// Returns the termination in a slot, or `None` if the slot is free.
+    /// Returns the termination in a slot, or `None` if no termination holds the slot.
     pub fn held(&self, slot: u8) -> Option<Record>
         ensures value { result ≡ holder_of self.now slot }
         ensures slot { IfSome result (λ r. r.slot < self.now.limits.slots) }
@@ -138,7 +138,7 @@ impl Rooms {
         self.tables.held(slot)
     }
 
-    /// Returns the number of the termination in a slot, or `None` if the slot is free.
+    /// Returns the number of the termination in a slot, or `None` if no termination holds the slot.
     pub fn at_slot(&self, slot: u8) -> Option<u32>
         ensures value { result ≡ option_map (λ r. r.number) (holder_of self.now slot) }
     {
@@ -250,10 +250,10 @@ impl Rooms {
 
     /// Puts back a termination that the gateway had before it was restarted.
     ///
-    /// The termination becomes the last member of its context. If the context doesn't exist, it is created in this room.
-    /// Returns false, and changes nothing, if the record or the room is not within the limits, if another termination
-    /// holds the number, the slot or the seat, if the context is full or in another room, or if another context holds
-    /// the room. The numbers must be below the next ones ([`Rooms::skip_to`]).
+    /// The termination becomes the last member of its context. If the context doesn't exist, it is created in this
+    /// room. Returns false, and changes nothing, in these cases: the record or the room is not within the limits;
+    /// another termination holds the number, the slot or the seat; the context is full or in another room; another
+    /// context holds the room. The numbers must be below the next ones ([`Rooms::skip_to`]).
     pub fn restore(&mut self, termination: &Record, room: u8) -> bool
         ensures value { result ≡ may_restore self.old termination.now room }
         ensures outcome { self.new ≡ (if result then restored self.old termination.now room else self.old) }

@@ -47,7 +47,8 @@ impl Settings {
         }
     }
 
-    /// Returns the Local after the command, with the gateway's address and the termination's port.
+    /// Returns the Local after the command, with the gateway's address and the termination's port. Returns an error if
+    /// the command's Local is not acceptable.
     pub(crate) fn local_after(
         &self,
         old: Option<Chosen>,
@@ -64,7 +65,7 @@ impl Settings {
         }
     }
 
-    /// Returns the Remote after the command.
+    /// Returns the Remote after the command, or an error if the command's Remote is not acceptable.
     pub(crate) fn remote_after(&self, old: Option<Chosen>) -> Result<Option<Chosen>, ErrorNumber>
         ensures value { result ≡ media_after remote_choice self.now.remote old }
     {

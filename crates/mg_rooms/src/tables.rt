@@ -103,7 +103,7 @@ impl Tables {
         }
     }
 
-    /// Returns the record of the termination in a slot, or `None` if the slot is free.
+    /// Returns the record of the termination in a slot, or `None` if no termination holds the slot.
     pub(crate) fn held(&self, slot: u8) -> Option<Record>
         ensures value { result ≡ holder_of self.now slot }
         ensures slot { IfSome result (λ r. r.slot < self.now.limits.slots) }

@@ -17,7 +17,7 @@ same_before a b r s len e =
     let lens : length a ≡ length b = omega (arith, ap length e, length-append a r, length-append b s) in
     sym (take_at a r (length a) refl) ∙ ap (take (length a)) e ∙ take_at b s (length a) (sym lens)
 
--- Lists that are joined step by step are joined as three or four parts.
+-- A list that is split step by step consists of its three or four parts, joined.
 pub three_parts : (xs a b ys c : List ℕ) → xs ≡ a ++ ys → ys ≡ b ++ c → xs ≡ a ++ b ++ c
 three_parts xs a b ys c p q = p ∙ ap (λ (x : List ℕ). a ++ x) q ∙ sym (append_assoc a b c)
 

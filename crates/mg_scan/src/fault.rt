@@ -5,6 +5,6 @@ pub enum ScanFault {
     BadByte,
     /// A line or the source ends inside quoted text.
     OpenQuote,
-    /// The source ends inside a session description.
+    /// The source ends inside a session description that contains no zero byte.
     OpenOctets,
 }

@@ -27,7 +27,7 @@ pub split_first : (p : ℕ → Bool) (xs : List ℕ) →
 split_first p [] = record { others = []; parts = refl; after = refl }
 split_first p (x ∷ xs) = split_step p x xs (p x) refl (split_first p xs)
 
--- By these lemmas, the first element after the longest prefix that satisfies p does not satisfy p.
+-- By these lemmas, the first element after the longest prefix whose elements satisfy p does not satisfy p.
 fails_step : (p : ℕ → Bool) (x : ℕ) (xs : List ℕ) (b : Bool) → p x ≡ b →
     ((y : ℕ) (ys : List ℕ) → drop (prefix_len p xs) xs ≡ y ∷ ys → p y ≡ false)
     → (y : ℕ) (ys : List ℕ) → drop (prefix_len p (x ∷ xs)) (x ∷ xs) ≡ y ∷ ys → p y ≡ false
@@ -50,7 +50,7 @@ prefix_push : (p : ℕ → Bool) (xs : List ℕ) (y : ℕ) → p y ≡ false →
 prefix_push p [] y e = rw e (omega arith)
 prefix_push p (x ∷ xs) y e = prefix_step p x xs y (p x) refl (prefix_push p xs y e)
 
--- If the first element does not satisfy p, the longest suffix that satisfies p is shorter than the list.
+-- If the first element does not satisfy p, the longest suffix whose elements satisfy p is shorter than the list.
 pub suffix_short : (p : ℕ → Bool) (x : ℕ) (xs : List ℕ) → p x ≡ false → suffix_len p (x ∷ xs) ≤ length xs
 suffix_short p x xs e = rw (reverse-append (x ∷ []) xs)
     (omega (arith, prefix_push p (reverse xs) x e, length-reverse xs))

@@ -29,7 +29,7 @@ is_served_local address port offer =
 abbrev pub is_served_remote : Offer → Bool
 is_served_remote offer = is_open_port offer.port && is_some offer.address && is_some offer.law
 
--- The offers of the alternatives whose lines are supported.
+-- The offers of the alternatives that have an offer.
 abbrev pub offers_of : List (Option Offer) → List Offer
 offers_of alternatives = filter_map (λ offer. offer) alternatives
 

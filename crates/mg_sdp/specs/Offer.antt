@@ -28,8 +28,9 @@ abbrev pub only_media : List (List ℕ) → Option MediaLine
 only_media (value ∷ []) = media_in (fields_of value)
 only_media _ = None
 
--- The offer of an alternative, or None if its lines are not supported. The last connection line counts. Without a
--- connection line, the address is left to the gateway.
+-- The offer of an alternative, or None if it doesn't have exactly one media line, or if one of its lines is not
+-- supported. Of the connection lines, only the last counts. Without a connection line, the address is left to the
+-- gateway.
 unfoldable pub offer_of : List (List ℕ) → Option Offer
 offer_of lines = do
   address ← option_map_or (λ value. connection_in (fields_of value))

@@ -11,7 +11,7 @@ abbrev pub one_alternative : List (List ℕ) → List (List (List ℕ))
 one_alternative [] = []
 one_alternative (line ∷ lines) = (line ∷ lines) ∷ []
 
--- The alternatives of the remaining lines, which follow these lines of the current alternative.
+-- The alternatives that result if the remaining lines follow these lines of the current alternative.
 abbrev pub alternatives_after : List (List ℕ) → List (List ℕ) → List (List (List ℕ))
 alternatives_after current [] = one_alternative current
 alternatives_after current (line ∷ lines) =

@@ -18,7 +18,7 @@ pub struct Alternative {
     pub connection: AlternativePart<Option<[u8; 4]>>,
 }
 
-/// Returns whether an attribute is supported: false only for a packet time other than 20 ms.
+/// Returns whether an attribute is supported: false only for a `ptime` other than `ptime:20`.
 fn is_served_attribute(value: &[u8]) -> bool
     ensures value { result ≡ is_served_attribute value.now }
 {
@@ -75,7 +75,8 @@ impl Alternative {
         new
     }
 
-    /// Returns what the alternative offers, or `None` if its lines are not supported.
+    /// Returns what the alternative offers. Returns `None` if it doesn't have exactly one media line, or if one of its
+    /// lines is not supported; of the connection lines, only the last counts.
     pub fn offer(self) -> Option<Offer>
         ensures value { result ≡ offer_by self }
     {

@@ -13,8 +13,8 @@
 //! assert_eq!(rt; chosen.map(|chosen| chosen.law), Some(Law::A));
 //! ```
 //!
-//! In a Local, a `$` as the address, port or format leaves the choice to the gateway. In a Remote, such an offer is not
-//! acceptable.
+//! In a Local, a `$` as the address, the port or the first supported format leaves the choice to the gateway. In a
+//! Remote, an offer with such a `$` is not acceptable.
 //!
 //! [`theorems`] states that a written description reads back as itself, and that lines divide into alternatives in
 //! exactly one way.

@@ -5,6 +5,6 @@ pub enum AlternativePart<T> {
     Missing,
     /// A line has this part.
     Given(T),
-    /// A line has this part in a form that is not supported, or there is more than one media line.
+    /// The last line with this part has it in a form that is not supported, or there is more than one media line.
     Faulty,
 }

@@ -8,7 +8,8 @@ use std::marker::Model;
 /// What the alternatives of a descriptor offer.
 ///
 /// In contracts, this type appears as a list with an entry for each alternative, in order. An entry is the
-/// alternative's offer, or `None` if its lines are not supported.
+/// alternative's offer, or `None` if the alternative offers nothing that is supported (`offer_of` in
+/// `specs/Offer.antt`).
 #[derive(Debug, Drop)]
 pub struct Sessions {
     pub(crate) offers: ArrayVec<Option<Offer>, ALTERNATIVE_LIMIT>,

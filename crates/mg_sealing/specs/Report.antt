@@ -28,8 +28,8 @@ answer None None = Unknown
 
 -- ## Several files, oldest first
 
--- Whether a file follows the one before it, given the end of the seal that would follow that one. The first file has
--- none before it.
+-- Whether a file follows the one before it, given the end of the seal that would follow that one. True for the first
+-- file, which has none before it.
 abbrev pub is_next : (before : Option (List ℕ)) → Linked → Bool
 is_next None linked = true
 is_next (Some end) linked =

@@ -13,7 +13,7 @@ use mg_options::Status;
 use std::alloc::Global;
 use std::io::{self, BufRead, BufReader, Error, ErrorKind, Read, Write};
 
-/// The number of ticks between seals: a minute.
+/// The number of ticks between seals: a minute's worth.
 const TICKS: u32 = 3000;
 
 /// The length of a seal's line, in bytes.
@@ -148,7 +148,7 @@ fn write_sealed<R: BufRead, W: Write>(
     Err(Error::from(ErrorKind::FileTooLarge))
 }
 
-/// Copies the text of a reader and adds seals.
+/// Copies the text read from `reader` and adds seals.
 fn seal_text<R: Read, W: Write>(alloc: Global, reader: &mut R, output: &mut W) -> io::Result<()>
     ensures value { OnOk result (IfSome (R.remaining reader.old)
         (λ text. Appends (W.contents output.old) (W.contents output.new) (sealed text))) }

@@ -16,11 +16,11 @@ use std::io::{self, Read, Write};
 #[derive(Drop)]
 pub struct Series {
     alloc: Global,
-    /// The end of the seal that would follow the file before the next one, or `None` before the first file.
+    /// The end of the seal that would follow the previous file, or `None` before the first file.
     before: Option<[u8; END]>,
 }
 
-/// Returns whether a file follows the one before it, if there is one.
+/// Returns whether a file follows the previous file. Returns true for the first file.
 fn is_next(before: &Option<[u8; END]>, linked: &Linked) -> bool
     ensures value { result ≡ is_next before.now linked.now }
 {

@@ -1,4 +1,4 @@
--- Appends of a trace, as the definitions and the code's contracts say them.
+-- Appends of a trace, as the definitions and the code's contracts describe them.
 use Rattle.std.proofs.Common.{◌≡◌, ◌⊎◌, inl, inr, ℕ, Bool, true, false, List, [], ◌∷◌, ◌++◌, All, Result, Ok, Err, refl, sym, subst}
 use Rattle.std.proofs.lemmas.List.Elements.{All-head, All-tail, All-nil, All-cons}
 use Rattle.mg_journal.specs.declared.append_fault.AppendFault.{AppendFault}
@@ -63,7 +63,7 @@ refused_as event fault lines how (Printed text ∷ p) all before = absurd (All-h
 refused_as event fault lines how (Noted text ∷ p) all before = absurd (All-head IsAppended _ p all)
 refused_as event fault lines how (Stale source bytes ∷ p) all before = absurd (All-head IsAppended _ p all)
 
--- Appends before an event, of which the last one failed.
+-- Appends before an event, the last of which failed.
 pub failed_as : (event : Event) (fault : AppendFault) (p : List TraceEntry) → AreAppends (Happened event ∷ []) (Err fault) p
     → AppendsFor event true p
 failed_as event fault p (appended, lines, how, is, all, before) =

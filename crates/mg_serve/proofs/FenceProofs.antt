@@ -1,4 +1,4 @@
--- Behind a fence, a message with a number is not run if an earlier message with a higher number was run since an
+-- Behind a fence, a message with a number is not run if an earlier message with a higher number has been run since an
 -- operator last set the fence.
 use Rattle.std.proofs.Common.{◌≡◌, ℕ, ◌≤◌, max, true, List, [], ◌∷◌, ◌++◌, map, Option, Some, None, sym, ap, subst, ◌∙◌, arith, unwrap_or}
 use Rattle.std.specs.Option.{option_map}

@@ -69,7 +69,7 @@ told_at durability preface told happened (Announces source bytes) journal (tells
   },
 )
 
--- At a moment of a session, the journal has the events that happened, except for RTP datagrams and lost ticks.
+-- At a moment of a session, the journal has the lasting events that happened, except for lost ticks.
 pub moment_told : RecordingsAreRead → (setup : Setup) (durability : Durability) (preface : List ℕ) (w : World)
     (told : List Event) (front rest : List TraceEntry) (journal : JournalState)
     → IsMoment setup durability preface w told front rest journal

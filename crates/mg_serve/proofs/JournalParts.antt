@@ -81,8 +81,8 @@ none_front (e ∷ front) rest is =
 
 -- ## The last renewal in a session
 
--- The prefix has no successful renewal. Otherwise it consists of a session up to the last one, and the first entries of
--- a session that starts there.
+-- The prefix consists of the trace of a session that ends with the prefix's last successful renewal, and the first
+-- entries of a session that starts there.
 pub record IsSplit (setup : Setup) (w : World) (front rest : List TraceEntry) (last : World) : Type 0 where
   pub start : World
   pub before : List Command

@@ -265,7 +265,7 @@ no_event durability preface told happened lacking next old new holds is same =
 
 -- ## Traces
 
--- A message that isn't oversized lasts, and an oversized one doesn't.
+-- A message that isn't oversized is among the lasting events, and an oversized one is not.
 pub lasts : (source : Peer) (bytes : List ℕ) (events : List Event) → is_oversized (Control source bytes) ≡ false
     → lasting (Control source bytes ∷ events) ≡ Control source bytes ∷ lasting events
 lasts source bytes events short = rw short refl

@@ -132,7 +132,7 @@ cut_is front = after_feed front (has_line_feed front) refl (λ p fed. cut_fed p 
 abbrev pub IsScriptFrom : (counts : Bool) → List ℕ → List Event → Type 0
 IsScriptFrom counts text events = IsWhole text × (events_of (expanded counts (lines_of true text)) ≡ Some events)
 
--- Whether ticks are counted behind this text.
+-- Whether ticks are counted after this text.
 abbrev pub marked : List ℕ → Bool
 marked text = list_any is_mark (lines_of true text)
 
@@ -156,11 +156,11 @@ marked_both x y whole =
 pub stays_marked : (x y : List ℕ) → IsWhole x → marked x ≡ true → marked (x ++ y) ≡ true
 stays_marked x y whole is = marked_both x y whole ∙ ap (λ (b : Bool). b || marked y) is
 
--- The text, if it is known, is the preface and a script of these events.
+-- The text, if it is known, is a journal of these events that begins with the preface.
 abbrev pub Tells : (preface : List ℕ) → Option (List ℕ) → List Event → Type 0
 Tells preface known events = IfSome known (λ text. IsJournalOf preface text events)
 
--- If a script is appended to known text, the result tells the events of both parts.
+-- If a script is appended to known text, the result contains the events of both parts.
 pub known_more : (preface : List ℕ) (known : Option (List ℕ)) (y : List ℕ) (es fs : List Event) → Tells preface known es
     → IsScriptFrom true y fs → Tells preface (append_known known y) (es ++ fs)
 known_more preface None y es fs one other = tt

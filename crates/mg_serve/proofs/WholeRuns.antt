@@ -63,7 +63,7 @@ no_lines form i fault exits = record {
   exits = exits;
 }
 
--- If no tick began, there are no commands.
+-- If memory ran out before the first step, there are no commands.
 no_ticks : (form : Form) (allowed : ℕ) (clock : ClockSeen) (fails : Type 0) →
     ClockCommands form allowed clock clock fails (ended_by faults.NoMemory) []
 no_ticks form allowed clock fails = record {

@@ -15,9 +15,9 @@ use Rattle.mg_serve.specs.Fenced.{IsFenced, reached_line}
 use Rattle.mg_serve.specs.declared.fencing.Fencing.{Fencing}
 use Rattle.mg_serve.specs.Trace.{TraceEntry, Called, Happened, events_of_trace}
 
--- If a message with a number is run behind a fence, its number is at least that of every earlier message that was run
--- since an operator last set the fence. Earlier messages include those in the journal from earlier lives of the
--- gateway.
+-- Suppose a message with a number is run behind a fence. Then its number is at least that of every earlier message that
+-- has been run since an operator last set the fence. Earlier messages include those in the journal from earlier lives
+-- of the gateway.
 abbrev pub NoLowerNumberIsRun : Type 0
 NoLowerNumberIsRun =
     (fence : Fence) (start end : Fencing) (earlier : List Note) (front rest : List TraceEntry)

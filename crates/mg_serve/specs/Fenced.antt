@@ -9,7 +9,8 @@ use Rattle.mg_ports.specs.declared.call.Call.TheVariants.{Renew}
 use Rattle.mg_serve.specs.declared.fencing.Fencing.{Fencing}
 use Rattle.mg_serve.specs.Trace.{TraceEntry, Called, Happened, Stale}
 
--- After a message with this number, or without a number, was run. The number is raised with or without a fence.
+-- The fence and the number after a message with this number, or without a number, was run. The number is raised with or
+-- without a fence.
 abbrev pub after_message : (number : Option ℕ) → Fencing → Fencing
 after_message number old = record {
   fence = option_map (raised_by number) old.fence;

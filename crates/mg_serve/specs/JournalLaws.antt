@@ -1,8 +1,8 @@
 -- The events and states of a session that its journal preserves, whenever the gateway crashes.
 --
--- A journal tells events from a gateway's start, or from its last successful renewal. It then begins with a preface: the
--- head and the checkpoint of the world at the renewal. A gateway that resumes begins with that world, except for what
--- was received.
+-- A journal contains the events since a gateway's start, or since its last successful renewal. After a renewal, it
+-- begins with a preface: the head and the checkpoint of the world at the renewal. A gateway that resumes begins with
+-- that world, except for what was received.
 use Rattle.std.specs.Prelude.{◌≡◌, ◌⊎◌, ℕ, ◌≤◌, Bool, true, false, List, [], ◌∷◌, ◌++◌, replicate, Ok}
 use Rattle.std.specs.Prelude.{Some, IfSome}
 use Rattle.std.specs.List.{list_any}
@@ -36,13 +36,13 @@ use Rattle.mg_serve.specs.Trace.{TraceEntry, Called, Happened, calls_of, events_
 abbrev pub IsScriptOf : List ℕ → List Event → Type 0
 IsScriptOf text events = IsWhole text × (events_of (journal_lines true text) ≡ Some events)
 
--- What follows the preface of this text is read as a script of these events, and ticks are counted behind it.
+-- What follows the preface of this text is read as a script of these events, and ticks are counted after it.
 abbrev pub IsJournalOf : (preface text : List ℕ) → List Event → Type 0
 IsJournalOf preface text events =
     (tail : List ℕ) × (text ≡ preface ++ tail) × IsScriptOf tail events
     × (list_any is_mark (lines_of true tail) ≡ true)
 
--- The text of the journal, if it is known, tells these events.
+-- The text of the journal, if it is known, contains these events.
 abbrev pub TellsEvents : (preface : List ℕ) → JournalState → List Event → Type 0
 TellsEvents preface journal events = IfSome journal.text (λ text. IsJournalOf preface text events)
 
@@ -52,8 +52,8 @@ is_renewal (Renew text durability (Ok done)) = true
 is_renewal _ = false
 
 -- A moment of a session that starts in the world `w`. At the start, the journal had this preface and contained the
--- events `told`. The entries `front` have happened, and the entries `rest` follow. The journal was not renewed, and is in
--- this state at the moment.
+-- events `told`. The entries `front` have happened, and the entries `rest` follow. The journal was not renewed
+-- successfully in `front`, and is in this state at the moment.
 pub record IsMoment (setup : Setup) (durability : Durability) (preface : List ℕ) (w : World)
     (told : List Event) (front rest : List TraceEntry) (journal : JournalState) : Type 0 where
   pub commands : List Command
@@ -80,8 +80,8 @@ pub record IsRenewed (setup : Setup) (w : World) (front : List TraceEntry) (star
   pub run : Run w (events_of_trace earlier) sent start
 
 -- Each prefix of a session's trace ends at a moment. The moment counts from the last successful renewal in the prefix,
--- as if a session had started there in that world with the renewed journal, which tells no events. Without such a
--- renewal, it counts from the start. The first two premises say that there is a journal, and what it contained. The
+-- as if a session had started there in that world with the renewed journal, which contains no events yet. Without such
+-- a renewal, it counts from the start. The first two premises say that there is a journal, and what it contained. The
 -- others are fields of `Served`, the contract of a server's run. The rest of the trace leads from the journal at this
 -- moment to the journal at the end of the run.
 abbrev pub EachPartIsAMoment : Type 0
@@ -137,9 +137,9 @@ pub record LosesTicks (lacking : ℕ) (happened written : List Event) : Type 0 w
   pub wrote : (written ≡ kept)
       ⊎ ((source : Peer) × (bytes : List ℕ) × (written ≡ kept ++ events.Control source bytes ∷ []))
 
--- The loss of `LosesTicks`, in terms of worlds. The gateway was in the world `now`. After the lost ticks, the world
--- `before` agrees with `now`, except for what was received. The gateway resumes in `before`, or in the world after a
--- message that was announced, but was neither handled nor answered.
+-- The loss of `LosesTicks`, in terms of worlds. The gateway was in the world `now`. From the world `before`, the lost
+-- ticks lead to a world that agrees with `now`, except for what was received. The gateway resumes in `before`, or in
+-- the world after a message that was announced, but was neither handled nor answered.
 pub record LosesSpeech (lacking : ℕ) (now resumed : World) : Type 0 where
   pub before : World
   pub ticks : ℕ
@@ -149,9 +149,9 @@ pub record LosesSpeech (lacking : ℕ) (now resumed : World) : Type 0 where
       ⊎ ((source : Peer) × (bytes : List ℕ) × (sent : List Sent)
       × Step before (events.Control source bytes) sent resumed)
 
--- A crash at a moment of a session, in the world `now`. The journal contains its events from the start, and then the
--- events `written`. These are the lasting events that happened, without lost ticks. A message that was not handled may
--- come last. A run of all events in the journal, from the world `base`, ends in the world in which a
+-- A crash at a moment of a session, in the world `now`. The journal contains the events `told` from before the session,
+-- and then the events `written`. These are the lasting events that happened, without lost ticks. A message that was not
+-- handled may come last. A run of all events in the journal, from the world `base`, ends in the world in which a
 -- gateway resumes.
 pub record Survives (setup : Setup) (durability : Durability) (preface : List ℕ) (base w : World)
     (told : List Event) (front : List TraceEntry) (journal : JournalState) : Type 0 where
@@ -168,9 +168,9 @@ pub record Survives (setup : Setup) (durability : Durability) (preface : List �
       → LosesSpeech (ticks_lacking progress) now resumed
 
 -- A crash loses received RTP (speech and its counts) and a few ticks, and nothing else. From the world `base`, the
--- events of the session's journal lead to some world. The session may start in any world that agrees with this world,
--- except for what was received. A crash during an append has the same effect as a broken append: some of the lines are in the
--- journal.
+-- events that the journal contained at the start of the session lead to some world. The session may start in any world
+-- that agrees with this world, except for what was received. A crash during an append has the same effect as a broken
+-- append: some of the lines are in the journal.
 abbrev pub CrashesLoseSpeechOnly : Type 0
 CrashesLoseSpeechOnly =
     (setup : Setup) (durability : Durability) (preface : List ℕ) (base w v : World)
@@ -201,7 +201,7 @@ WereTold told front first =
     ⊎ ((source : Peer) × (bytes : List ℕ)
     × (first ≡ (told ++ lasting (events_of_trace past)) ++ events.Control source bytes ∷ []))))
 
--- Wherever the text of a journal is truncated behind its preface, its complete lines there are a script of its first
+-- Wherever the text of a journal is truncated after its preface, its complete lines there are a script of its first
 -- events. These events had happened by some moment.
 abbrev pub AnyCutIsAMoment : Type 0
 AnyCutIsAMoment =
@@ -239,7 +239,7 @@ CutsResumeAMoment =
 
 -- If messages are synced, nothing answered is forgotten even if the machine loses power. A message that isn't oversized
 -- was answered at an earlier moment. The disk has the synced text, and perhaps more of the text, up to any byte. The
--- preface is on the disk, and the complete lines behind it still contain all lasting events up to this message.
+-- preface is on the disk, and the complete lines after it still contain all lasting events up to this message.
 abbrev pub PowerLossesForgetNoAnswer : Type 0
 PowerLossesForgetNoAnswer =
     (setup : Setup) (preface : List ℕ) (w : World) (told : List Event)

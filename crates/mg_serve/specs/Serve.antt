@@ -106,7 +106,7 @@ abbrev pub IsOutput : Result Counts RunFault → List ℕ → Option (List ℕ) 
 IsOutput (Err faults.Write) text old new = WritesFront text old new
 IsOutput _ text old new = Appends old new text
 
--- A run of a gateway in the world `w`, with commands from a source. The commands form a session; the ports logged its
+-- A run of a gateway from the world `w`, with commands from a source. The commands form a session; the ports logged its
 -- calls, its journal got its lines, and its output was printed.
 pub record Served (setup : Setup) (w : World) (title : Option (List ℕ))
     (Gave : List Command → Type 0) (old new : PortsSeen) (held written : Option (List ℕ))

@@ -13,7 +13,7 @@ use Rattle.mg_fence.specs.declared.fence.Fence.{Fence}
 use Rattle.mg_journal.specs.declared.durability.Durability.{Durability}
 use Rattle.mg_serve.specs.declared.fencing.Fencing.{Fencing}
 
--- The setup of a session: the gateway's configuration, the addresses of its controllers, and whether callers use
+-- The setup of a session: the gateway's configuration, the addresses of its controllers, and whether callers must use
 -- symmetric RTP. If there is a journal, `journal` is the durability with which messages are appended, and `head` is the
 -- text with which a renewed journal begins. If there is a fence, `fence` is its state at the start. `reached` is the
 -- number that messages had reached at the start.

@@ -71,5 +71,5 @@ ReplaysAreTheSession =
     (setup : Setup) (title : List ℕ) (commands : List Command) (next : World) (trace : List TraceEntry)
     (counts : Counts) (old new : Option (List ℕ)) → IsValidConfig setup.config
     → Session setup commands (start_of setup.config) trace next
-    → (ran : RanToEnd setup.config shows.Sent (recorded title trace) counts old new)
+    → (ran : RanToEnd (start_of setup.config) shows.Sent (recorded title trace) counts old new)
     → WroteWhatWasSent setup trace next ran.last old new

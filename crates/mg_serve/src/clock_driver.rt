@@ -22,8 +22,8 @@ pub struct ClockDriver<'a, P: Peripherals> {
 }
 
 impl<'a, P: Peripherals> ClockDriver<'a, P> {
-    /// Creates a driver for a server, before the first tick. If a tick is more than `allowed` ticks late, its packets
-    /// are not sent.
+    /// Creates a driver for a server, before the first tick. If a tick is more than `allowed` ticks late, ports on a
+    /// network don't send its packets.
     pub fn new(server: Server<'a, P::Monitor>, allowed: u16) -> Self
         ensures server { result.server ≡ server.entry }
         ensures schedule { result.schedule ≡ record { ticks = 0; allowed = allowed; messages = 0 } }

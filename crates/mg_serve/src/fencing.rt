@@ -4,7 +4,7 @@ ghost use Rattle.mg_serve.specs.Fenced.{after_message};
 
 use mg_fence::Fence;
 
-/// A session's fence, if it has one, and the number that its messages have reached: the highest number so far, also
+/// A session's fence, if it has one, and the number that its messages have reached: the highest number so far, even
 /// without a fence.
 #[derive(Clone, Copy, Debug, PartialEq, Eq)]
 pub struct Fencing {

@@ -22,15 +22,15 @@ use mg_ports::Ports;
 use std::alloc::{AllocError, Global};
 use std::marker::Model;
 
-/// The number of ticks that the journal may lack before they are appended: 0.2 seconds' worth. `heard --never` reports
-/// a broken rule only after the journal has the tick after the message.
+/// The number of ticks that the journal may lack before they are appended: 0.2 seconds' worth. A `heard --never` that
+/// follows the journal reports a broken rule only after the journal has the tick after the message.
 const TOGETHER: u64 = 10;
 
 /// The state of a session's journal, such as the number of ticks that it lacks, and the session's fence. A session may
 /// have no journal, and no fence.
 ///
-/// A message is appended before it is handled. Ticks are appended five times a second, and before each message. The
-/// journal is renewed after ticks, if the ports say that this is due.
+/// A message is appended before it is handled, unless it is oversized. Ticks are appended five times a second, and
+/// before each message. The journal is renewed after ticks, if the ports say that this is due.
 #[derive(Drop)]
 pub struct Journaling {
     durability: Option<Durability>,
@@ -91,7 +91,7 @@ fn append_line<P: Ports>(ports: &mut P, ticks: u64, failed: &mut u64) -> Result<
 
 impl Journaling {
     /// Starts with a journal that lacks no ticks. Messages are appended with this durability; `None` means that there
-    /// is no journal. No other call allocates.
+    /// is no journal. Of the other calls, only a renewal allocates.
     pub fn new(
         alloc: Global,
         durability: Option<Durability>,

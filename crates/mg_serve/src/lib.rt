@@ -14,7 +14,7 @@
 //! It keeps a datagram from the gateway's core only for a reason that the definition names: the datagram came from a
 //! stranger or didn't pass the fence, memory ran out, or the journal failed. [`theorems`] goes further: a session sends
 //! what a run of its events sends, and reading its recording back yields the same events. [`journal_theorems`] states
-//! what a journal preserves, also after it was renewed.
+//! what a journal preserves, even after a renewal.
 #![tactic(auto)]
 
 mod clock_driver;

@@ -158,7 +158,7 @@ impl Printer {
         put_now(&mut self.has_failed, self.text.as_slice(), writer);
     }
 
-    /// Prints `text` as one line, for the gateway's driver.
+    /// Prints `text` as one line, for the gateway's driver. In a recording, the line is a comment.
     pub fn print<W: Write>(&mut self, text: &[u8], writer: &mut W)
         ensures value { Prints self.old self.new (W.contents writer.old) (W.contents writer.new)
             (Printed text.now ∷ []) }
@@ -169,7 +169,7 @@ impl Printer {
         }
     }
 
-    /// Prints `text` as one line, but only in a recording.
+    /// Prints `text` as a comment of one line, but only in a recording.
     pub fn note<W: Write>(&mut self, text: &[u8], writer: &mut W)
         ensures value { Prints self.old self.new (W.contents writer.old) (W.contents writer.new)
             (Noted text.now ∷ []) }
@@ -180,7 +180,7 @@ impl Printer {
         }
     }
 
-    /// Prints the title of a recording, if there is one, and `ready`.
+    /// Prints the title, if there is one and the output is a recording, and then `ready`.
     pub fn open<W: Write>(&mut self, title: Option<&[u8]>, writer: &mut W)
         ensures value { Prints self.old self.new (W.contents writer.old) (W.contents writer.new)
             (opening (option_map (λ text. text.now) title.entry)) }

@@ -14,7 +14,7 @@ use mg_checkpoint::{restore, save};
 use mg_core::{Config, Core};
 use std::alloc::{AllocError, Global};
 
-/// A line with the number that messages have reached, with its line feed.
+/// A line with the number that messages have reached, including its line feed.
 type ReachedLine = ArrayVec<u8, 21>;
 
 /// Returns the line that says which number the messages have reached.
@@ -53,8 +53,8 @@ fn is_restorable(alloc: Global, config: Config, checkpoint: &[u8]) -> bool
     restore(alloc, config, checkpoint).is_ok()
 }
 
-/// Returns the text with which the journal is renewed: the head, the gateway's checkpoint, and the number that messages
-/// have reached.
+/// Returns the text with which the journal is renewed: the head, the gateway's checkpoint, the line `# counted ticks`,
+/// and the number that messages have reached.
 ///
 /// Returns `None` if memory runs out, or if no gateway can be restored from the checkpoint.
 pub fn renewal_text(alloc: Global, setup: &Setup<'_>, core: &Core, reached: u32) -> Option<Vec<u8>>

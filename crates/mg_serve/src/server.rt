@@ -50,7 +50,7 @@ pub struct Server<'a, M: Monitor> {
     pub printer: Printer,
     pub journal: Journaling,
     monitor: &'a mut M,
-    /// Lines that were executed.
+    /// Commands that were executed.
     pub lines: u64,
     /// Answers and packets that were sent successfully.
     pub sent: u64,
@@ -177,8 +177,9 @@ impl<'a, M: Monitor> Server<'a, M> {
         Ok(())
     }
 
-    /// Drops a control datagram that doesn't pass the fence. Otherwise appends it to the journal, if there is one, then
-    /// runs it and sends its answer, if it has one. Also drops the datagram if memory runs out or the append fails.
+    /// Drops a control datagram that doesn't pass the fence. Otherwise appends it to the journal, if there is one and
+    /// the datagram isn't oversized, then runs it and sends its answer, if it has one. Also drops the datagram if
+    /// memory runs out or the append fails.
     fn take_control<P: Ports, W: Write>(
         &mut self,
         setup: &Setup<'_>,

@@ -42,9 +42,9 @@ use std::io::Read;
 /// printed.
 ///
 /// If there is a journal, each control message that is accepted is appended to the journal before the message is
-/// handled, and is dropped if the append fails. Ticks are appended before the next message, and otherwise five times a
-/// second. A tick's packets are sent whether or not appends work. The journal's text contains the session's events,
-/// except for RTP datagrams and for ticks that it still lacks.
+/// handled, unless it is oversized. If the append fails, the message is dropped. Ticks are appended before the next
+/// message, and otherwise five times a second. A tick's packets are sent whether or not appends work. The journal's
+/// text contains the session's events, except for RTP datagrams, oversized messages, and ticks that it still lacks.
 ///
 /// If the ports say after a tick that a renewal is due, the journal is replaced by one that begins with the gateway's
 /// checkpoint (`mg_checkpoint`) and goes on from there. If that fails, the old journal goes on.
@@ -126,11 +126,11 @@ fn drive<P: Peripherals, R: Read>(
 /// message arrives in between, does the same as [`serve`] for the line `poll`, up to 20 times before each tick.
 ///
 /// The k-th tick begins at the first reading of the clock at which it is due: `k * 20 ms` after the clock's start, or
-/// later. After a delay, all missed ticks are executed at once. If a tick is later than the timer allows, its packets are
-/// not sent.
+/// later. After a delay, all missed ticks are executed at once. If a tick is later than the timer allows, ports on a
+/// network don't send its packets.
 ///
 /// Returns only on a fault: `Read` if the clock can't be read or can't reach the next tick, or after 2^64 - 1 steps;
-/// `Write` if printing failed; or `NoMemory` before anything is executed.
+/// `Write` if printing failed; or `NoMemory` if memory runs out before anything is executed.
 pub fn serve_by_clock<P: Peripherals, K: Watch>(
     start: Start<'_>,
     ports: &mut P::Ports,

@@ -105,7 +105,7 @@ impl<'a> Setup<'a> {
         self.config
     }
 
-    /// Returns whether callers use symmetric RTP.
+    /// Returns whether callers must use symmetric RTP.
     pub fn symmetric_rtp(&self) -> bool
         ensures value { result ≡ self.now.symmetric_rtp }
     {

@@ -21,6 +21,6 @@ pub struct TickReport<'a> {
     pub failures: FailureCauses,
     /// The journal's state.
     pub journal: JournalReport,
-    /// Whether the tick was late. If it was, none of its packets was sent.
+    /// Whether the tick was late. If it was, ports on a network sent none of its packets.
     pub timing: Timing,
 }

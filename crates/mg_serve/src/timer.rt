@@ -4,6 +4,7 @@ use mg_clock::Watch;
 #[derive(Drop)]
 pub struct Timer<K: Watch> {
     pub watch: K,
-    /// The maximum lateness of a tick, in ticks: if a tick is later than that, its packets are not sent.
+    /// The maximum lateness of a tick, in ticks: if a tick is later than that, ports on a network don't send its
+    /// packets.
     pub late: u16,
 }

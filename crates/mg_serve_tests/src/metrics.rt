@@ -10,7 +10,7 @@ const STRANGER: Peer = Peer {
     port: 40000,
 };
 
-/// A session with a report every second. Only 127.0.0.1 may send messages, and callers use symmetric RTP.
+/// A session with a report every second. Only 127.0.0.1 may send messages, and callers must use symmetric RTP.
 const WATCHED: Session<'static> = Session {
     controllers: &[[127, 0, 0, 1]],
     symmetric_rtp: true,
@@ -180,7 +180,7 @@ const CASES: &[Case<'static>] = &[
     },
 ];
 
-/// Returns the first line that the text lacks.
+/// Returns the first of `lines` that the text lacks, or `None` if it has all of them.
 fn first_missing<'a>(text: &[u8], lines: &'a [&'a [u8]]) -> Option<&'a [u8]> {
     for line in lines {
         if !text.split(|b| *b == b'\n').any(|found| found == *line) {

@@ -154,7 +154,7 @@ fn position_of(text: &[u8], part: &[u8]) -> Option<usize> {
     (0..text.len()).find(|at| text.get(*at..).unwrap_or(&[]).starts_with(part))
 }
 
-/// Splits the text of a journal into the checkpoint behind the title, and what follows. Returns `None` if the text has
+/// Splits the text of a journal into the checkpoint after the title, and what follows. Returns `None` if the text has
 /// no title, or if ticks aren't counted.
 fn parts_of(text: &[u8]) -> Option<(&[u8], &[u8])> {
     let mark = b"# counted ticks\n".as_slice();
@@ -163,7 +163,8 @@ fn parts_of(text: &[u8]) -> Option<(&[u8], &[u8])> {
     Some(rest.split_at(at.min(rest.len())))
 }
 
-/// Returns the checkpoint of a new gateway that ran the session, and that of a gateway that resumed from its journal.
+/// Returns the checkpoint of a new gateway that ran the session, and that of a gateway that resumed from the session's
+/// journal.
 fn checkpoints_of(alloc: Global, outcome: &Outcome) -> Result<[Vec<u8>; 2], AllocError> {
     let (checkpoint, tail) = parts_of(outcome.text.as_slice()).unwrap_or((b"", b""));
     Ok([

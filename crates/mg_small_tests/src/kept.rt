@@ -91,7 +91,7 @@ fn keep(kept: &mut Kept, sender: &[u8], number: u32, text: &[u8]) -> bool {
     true
 }
 
-/// Keeps a reply for each number, up to the first number for which this fails. Returns whether it failed for none.
+/// Keeps a reply for each number, up to the first one that can't be kept. Returns whether all were kept.
 fn keep_all(kept: &mut Kept, first: u8, last: u8) -> bool {
     for number in first..=last {
         if !keep(kept, LOWER, u32::from(number), &[number]) {

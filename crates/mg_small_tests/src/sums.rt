@@ -195,7 +195,8 @@ fn is_joined(sums: &Sums, room: Room, row: Row) -> bool
     }
 }
 
-/// Returns whether at most two rows are left out, all of them are joined to the room, and no two are the same.
+/// Returns whether at most the base and one row in `minus` are left out, each of these rows is joined to the room, and
+/// the two differ.
 fn can_mix(sums: &Sums, room: Room, base: Option<Row>, minus: &[Row]) -> bool
     ensures { IsTrue result → AreOfRoom sums.now.rooms room (left_out_by base minus.now) }
 {

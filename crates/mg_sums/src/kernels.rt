@@ -104,7 +104,7 @@ pub fn change_row(total: &mut [i32], old: &[i16], new: &[i16])
     }
 }
 
-// Changes eight samples of a total, starting at index `at`.
+// Subtracts eight samples from a total and adds eight others, starting at index `at`.
 fn change_chunk(total: &mut [i32], at: usize, old: &[i16; LANES], new: &[i16; LANES])
     requires within { at + 8 ≤ length total.old }
     requires olds { (j : ℕ) → j < 8 → FitsSigned w16 (sample old.now j) }

@@ -16,14 +16,14 @@ const TALKER: Peer = Peer {
     port: 4000,
 };
 
-/// Two participants, the second of whom the first may not hear.
+/// Two participants who may not hear each other.
 const FEW: &[&[u8]] = &[
     b"!/1 [192.0.2.9]:2944 T=1{C=${A=${M{O{MO=SR},R{v=0\nc=IN IP4 192.0.2.1\nm=audio 4000 RTP/AVP 8\n}}},A=${M{O{MO=RC}}}}}",
     b"!/1 [192.0.2.9]:2944 T=2{C=1{TP{RTP/2,RTP/1,IS}}}",
 ];
 
-/// Two contexts, one of them with members who have moved there, mutes in both directions, a termination that ended, and
-/// all modes.
+/// Messages that use all modes. They result in two contexts, one of them with members who have moved there, mutes in
+/// both directions, and a termination that ended.
 const MANY: &[&[u8]] = &[
     b"!/1 <mgc.example>:2944 T=1{C=${A=${M{O{MO=SR},L{v=0\nc=IN IP4 $\nm=audio $ RTP/AVP 0\n},R{v=0\nc=IN IP4 192.0.2.1\nm=audio 4000 RTP/AVP 0\n}}},A=${M{O{MO=SR},L{v=0\nc=IN IP4 $\nm=audio $ RTP/AVP 8\n},R{v=0\nc=IN IP4 192.0.2.2\nm=audio 4000 RTP/AVP 8\n}}},A=${M{O{MO=RC}}},A=${M{O{MO=LB}}}}}",
     b"!/1 <mgc.example>:2944 T=2{C=${A=${M{O{MO=SO},L{v=0\nc=IN IP4 $\nm=audio $ RTP/AVP 0\n},R{v=0\nc=IN IP4 192.0.2.3\nm=audio 4000 RTP/AVP 0\n}}},A=$}}",
@@ -53,7 +53,7 @@ fn hear_a_frame(core: &mut Core, sequence: u8) {
     core.media(30000, TALKER, &packet);
 }
 
-/// Returns a gateway after these messages. Two ticks follow each message.
+/// Returns a gateway after these messages. A frame and two ticks follow each message.
 fn gateway(alloc: Global, messages: &[&[u8]]) -> Result<Core, Fail> {
     let mut core = Core::new(alloc, config())?;
     for message in messages {
@@ -92,7 +92,7 @@ fn restores_what_was_saved(rt: HostRuntime) -> Result<(), Fail> {
 #[test]
 fn goes_on_with_the_same_packets(rt: HostRuntime) -> Result<(), Fail> {
     let mut core = gateway(rt.alloc(), MANY)?;
-    // After this many ticks, the frame that was heard is played.
+    // After this many ticks, all frames that were heard have been played.
     core.skip(100);
     let text = text_of(rt.alloc(), &core)?;
     let mut restored = restore(rt.alloc(), config(), text.as_slice())?;
@@ -142,7 +142,8 @@ fn refuses_a_text_without_one_of_its_lines(rt: HostRuntime) -> Result<(), Fail> 
     Ok(())
 }
 
-/// Changes each byte of a text to this one. What is restored then says the changed text.
+/// Changes each byte of a text to this one, one at a time. If a changed text can be restored, the restored gateway
+/// saves exactly that text.
 fn change_each(rt: &impl Abort, alloc: Global, text: &[u8], byte: u8) -> Result<(), Fail> {
     let mut changed = Vec::from_slice(alloc, text)?;
     for (i, b) in text.iter().enumerate() {

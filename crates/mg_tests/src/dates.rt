@@ -53,7 +53,7 @@ fn dates_messages_and_old_ticks(rt: HostRuntime) -> Result<(), Fail> {
     for (millis, lines) in [
         // The first lines get a seal, and the date of their first tick.
         (0, b"ticks 2\n".as_slice()),
-        // In another second, the first message gets a date and the next message does not.
+        // The first message of a later second gets a date, and the next message does not.
         (1_250, MESSAGE),
         (1_900, MESSAGE),
         // Ticks get a date only after a minute, and the date gets a seal.
@@ -122,7 +122,7 @@ fn counts_from_the_first_date(rt: HostRuntime) -> Result<(), Fail> {
     timeline.pass_ticks(10);
     timeline.pass_comment(b"# time 2026-11-27T14:03:21.249Z");
     timeline.pass_ticks(50);
-    // At the next restart, these 49 ms count as missed.
+    // At the next restart, these 49 ms count as two missed ticks.
     assert_equal(&rt, timeline.missed(after(2_249)), 2);
     Ok(())
 }

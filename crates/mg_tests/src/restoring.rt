@@ -88,7 +88,7 @@ fn put_back(from: &Engine, to: &mut Engine, number: u32) -> bool {
     }
 }
 
-/// Puts the members of a context back in order of entry, and then the last word on each two of them.
+/// Puts the members of a context back in order of entry, and then the last word on each pair of them.
 fn put_context_back(rt: &impl Abort, from: &Engine, to: &mut Engine, context: u32) {
     let members = from.rooms().members(context);
     for number in members {
@@ -147,7 +147,7 @@ fn go_on_alike(rt: &impl Abort, one: &mut Engine, other: &mut Engine, outbox: &m
     }
 }
 
-/// What is held can't be restored once more, nor what is out of range.
+/// A termination whose number, slot or seat is held can't be restored, and neither can one that is out of range.
 fn refuse(rt: &impl Abort, engine: &mut Engine) {
     let Some(record) = engine.rooms().record(4) else {
         return;

@@ -89,7 +89,7 @@ fault_in f = Some f
 
 module _ (source : List ℕ) (ts : List Token) (f : Option ScanFault) (short : length source ≤ 8192)
     (are : AreTokens source ts f) where
-  -- The head of a tree is parsed from the tokens of the bytes.
+  -- If the bytes have a tree, parsing their tokens yields a head with version 1.
   tree_head : (m : Message) (h : IsTree source m) → version_at source ts ≡ headed 1 h.is.0
   tree_head m h = ap (version_at source) (one_scan source ts h.tokens f None are h.are).0 ∙
       head_read source 1 h.tokens h.is.0 h.is.1

@@ -34,7 +34,7 @@ use Rattle.mg_text.proofs.ByteLemmas.{bytes, by_bytes, tokens_within, topology_t
 abbrev IsSmall : List Token → Type 0
 IsSmall ts = bytes ts ≤ message_limit
 
--- If each item passes a test, all items of a list pass it.
+-- If each item that the grammar allows passes a test, all items of a list pass it.
 module _ {X : Type 0} (P : X → Production) (f : X → Bool)
     (each : (x : X) (ts rest : List Token) → IsSmall ts → P x ts rest → f x ≡ true)
     (shorter : (ts : List Token) (x : X) (rest : List Token) → P x ts rest → bytes rest ≤ bytes ts) where

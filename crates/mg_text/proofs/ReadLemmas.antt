@@ -222,7 +222,7 @@ no_many_after : (v : Result (ℕ × List Token) ℕ) (faulty : Bool) (text : Lis
 no_many_after (Ok v) faulty text g = no_many_text (eqb v.0 1) faulty v.0 (text v.1) g
 no_many_after (Err place) faulty text g = cc g.1
 
--- The postconditions of the final result, where r is the result of parsing after the head of these tokens.
+-- The postconditions of the final result, where r is the result of parsing these tokens.
 module _ (source : List ℕ) (ts : List Token) (f : Option ScanFault) (len : ℕ) (short : IsShort source)
     (are : AreTokens source ts f) where
   pub answer_found : (r : Result Message ReadFault) →

@@ -74,7 +74,7 @@ abbrev pub IsTooMany : List ℕ → Type 0
 IsTooMany source =
     (message_limit < length source) ⊎ ((m : Message) × IsTree source m × ExceedsLimits m)
 
--- The bytes start with a head of another version. The head may be followed by anything.
+-- The bytes start with a head of another version. The head may be followed by anything, up to 8192 bytes in all.
 pub record HasOtherVersion (source : List ℕ) (version : ℕ) : Type 0 where
   pub short : length source ≤ message_limit
   pub tokens : List Token

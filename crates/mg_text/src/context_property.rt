@@ -18,7 +18,8 @@ pub enum ContextWord {
     Emergency,
 }
 
-/// A property of an action's context, which comes before the action's commands (RFC 3525, Annex B.2, contextRequest).
+/// A property of an action's context. An action's properties come before its commands (RFC 3525, Annex B.2,
+/// contextRequest).
 #[derive(Drop)]
 pub enum ContextProperty {
     Topology(TreeList<NamedTriple>),

@@ -3,7 +3,8 @@ use crate::context_property::ContextProperty;
 use crate::tree_list::TreeList;
 use mg_words::ContextId;
 
-/// An action on one context: properties, and then commands. There is at least one property or command.
+/// An action: the context that it names, its properties, and then its commands. There is at least one property or
+/// command.
 #[derive(Drop)]
 pub struct Action {
     pub context: ContextId,

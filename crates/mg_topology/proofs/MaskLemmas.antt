@@ -26,7 +26,7 @@ not_test x p = grind (arith, nat_tests)
 one_test : (k s : ℕ) → (bit_at (2 ^ k) s == 1) ≡ (s == k)
 one_test k s = grind (arith, nat_tests, bit_at-pow_same, bit_at-pow_other)
 
--- ---- the seats of what a bit operation gives
+-- ---- the seats in the result of a bit operation
 pub has_seat-or : (a b s : ℕ) → has_seat (bit_or a b) s ≡ (has_seat a s || has_seat b s)
 unfolding has_seat
 has_seat-or a b s = ap (λ n. n == 1) (bit_at_or a b s) ∙ or_test _ _ (bit_at-lt a s) (bit_at-lt b s)
@@ -129,7 +129,7 @@ lowest_of a p q =
     let z = bit_at-trailing_zeros mask_width a p q in
     record { below_limit = z.0; is_in = ap (λ n. n == 1) z.1; is_least = λ s l. ap (λ n. n == 1) (z.2 s l) }
 
--- A mask without one of its seats is a smaller number.
+-- A number that is at most a mask, and lacks one of the mask's seats, is smaller than the mask.
 pub smaller_without : (a b s : ℕ) → b ≤ a → has_seat a s ≡ true → has_seat b s ≡ false → b < a
 smaller_without a b s le p q = grind (arith, ap (λ n. has_seat n s))
 

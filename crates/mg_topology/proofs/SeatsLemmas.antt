@@ -14,7 +14,7 @@ use Rattle.mg_topology.specs.aids.Lowest.{IsLowest}
 abbrev IsWithout : (ℕ → Bool) → ℕ → (ℕ → Bool) → Type 0
 IsWithout p s q = (k : ℕ) → q k ≡ cond (k == s) false (p k)
 
--- ---- what tests keep of the numbers from a on
+-- ---- the numbers from a on that pass a test
 
 filtered : (p : ℕ → Bool) (a n : ℕ) (b : Bool) → p a ≡ b →
     filter p (range_with_len a (suc n)) ≡ cond b (a ∷ filter p (range_with_len (a + 1) n))

@@ -1,8 +1,8 @@
 //! Sets of seats as bit masks: bit s of a [`Mask`] is 1 if seat s is in the set.
 //!
 //! A mask is a plain number, so that it can be printed, stored and compared. It cannot be confused with a seat, which
-//! is a `usize`. Contracts refer to a mask only through `has_seat` and `seats_of` from `specs/Mask.antt`, so no other
-//! module deals with bits.
+//! is a `usize`. Contracts describe the seats of a mask with the definitions of `specs/Mask.antt`, such as `has_seat`
+//! and `seats_of`, so no other module deals with bits.
 
 ghost use Rattle.std.specs.Prelude.{◌≡◌, ℕ, ◌+◌, ◌<◌, ◌≤◌, ◌∷◌, ◌&&◌, ◌||◌, ◌==◌, ◌↔◌, not, true, false, IsTrue, IsFalse, IfSome, IfNone, All, length, if◌then◌else◌};
 ghost use Rattle.mg_topology.specs.Mask.{seat_limit, has_seat, seats_of, seat_count, is_disjoint, HaveCommonSeat, IsEmpty};

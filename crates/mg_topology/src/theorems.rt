@@ -24,7 +24,7 @@ pub fn newcomer_hears_and_is_heard()
         IsTrue (hears_in (Enter newcomer ∷ es) newcomer member) }
 {}
 
-/// Two members hear each other if no triple has mentioned them since both entered.
+/// Two members hear each other if no triple has mentioned the pair since both entered.
 pub fn unmentioned_pair_hears()
     ensures { (newer older : List TopologyEdit) (newcomer a b : ℕ) →
         IsTrue ((a == newcomer) || (b == newcomer)) →
@@ -32,7 +32,7 @@ pub fn unmentioned_pair_hears()
         IsTrue (may_hear (newer ++ Enter newcomer ∷ older) a b) }
 {}
 
-/// The last triple that mentions a pair is the last word on it.
+/// The last triple that mentions a pair is the last word on it, unless one of the two members has entered since.
 pub fn last_triple_wins()
     ensures { (newer older : List TopologyEdit) (triple : Triple) (a b : ℕ) →
         IsTrue (mentions triple a b) →
@@ -58,7 +58,8 @@ pub fn associations()
         × IsTrue (may_hear (Apply triple ∷ es) second first) }
 {}
 
-/// An edit that concerns only other members does not change whether two members hear each other.
+/// An Enter or Leave of another member, or a triple that doesn't mention the pair, does not change whether two members
+/// hear each other.
 pub fn others_are_unaffected()
     ensures enter { (es : List TopologyEdit) (newcomer a b : ℕ) → newcomer ≢ a → newcomer ≢ b →
         hears_in (Enter newcomer ∷ es) a b ≡ hears_in es a b }

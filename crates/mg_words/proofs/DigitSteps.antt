@@ -16,7 +16,8 @@ value_after limit n [] = Some n
 value_after limit n (d ∷ ds) = if is_ascii_digit d && nat_le (10 * n + (d - 48)) limit then
     value_after limit (10 * n + (d - 48)) ds else None
 
--- Reading one more digit does not change the value of the whole text, if the value so far is at most the limit.
+-- Reading one more digit does not change the value of the whole text, if the value including that digit is at most the
+-- limit.
 pub digit_step : (limit : ℕ) (text : List ℕ) (i n : ℕ) → i < length text → is_ascii_digit (get_or text i 0) ≡ true →
     10 * n + (get_or text i 0 - 48) ≤ limit →
     value_after limit (10 * n + (get_or text i 0 - 48)) (drop (i + 1) text) ≡ value_after limit n (drop i text)

@@ -1,5 +1,5 @@
 -- The limits of this gateway. Other definitions use the names of these limits, not their numbers. A 2^32 or 4294967295
--- in another definition means the range of 32 bits.
+-- in another definition means the range of 32 bits, except in ContextId, where 4294967295 denotes *.
 use Rattle.std.specs.Prelude.{ℕ}
 
 -- The maximum number of members in a context.

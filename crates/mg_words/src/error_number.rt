@@ -17,7 +17,7 @@ pub enum ErrorNumber {
     Version,
     /// The command or the triple does not allow this name.
     IdentifierNotAllowed,
-    /// The action's context does not exist, or cannot be entered.
+    /// The action's context does not exist, or is the null context, which cannot be entered and has no topology.
     UnknownContext,
     /// The limit on contexts is reached, or context numbers are exhausted.
     NoContextLeft,

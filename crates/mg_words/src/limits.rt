@@ -73,8 +73,8 @@ pub fn constants_are_limits()
     ensures numbers { (LAST_TERMINATION ≡ last_termination) × (LAST_CONTEXT ≡ last_context) }
 {}
 
-/// What the crates above assume about the limits: the number of a room and that of a slot fit in 8 bits. If there may be
-/// more rooms or slots than that, this proof fails.
+/// What the crates above assume about the limits: the number of a room and that of a slot fit in 8 bits. If the limits
+/// allow more than 256 rooms or slots, this proof fails.
 pub fn limits_fit()
     ensures rooms { context_limit ≤ 2 ^ 8 }
     ensures slots { termination_limit ≤ 2 ^ 8 }

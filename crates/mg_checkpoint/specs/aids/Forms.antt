@@ -20,11 +20,11 @@ numbered label n = label ++ (numeral n ++ codes " ")
 abbrev pub closing : List ℕ → ℕ → List ℕ
 closing label n = label ++ (numeral n ++ codes "\n")
 
--- The names of terminations, each with a space.
+-- The names of terminations, each followed by a space.
 abbrev pub names : List ℕ → List ℕ
 names numbers = flat_map (numbered (codes "RTP/")) numbers
 
--- The other numbers of an address, each behind a dot, and a colon.
+-- The other numbers of an address, each after a dot, and a colon.
 abbrev pub after_dots : List ℕ → List ℕ
 after_dots [] = codes ":"
 after_dots (n ∷ ns) = codes "." ++ (numeral n ++ after_dots ns)
@@ -38,7 +38,7 @@ abbrev pub law_text : Law → List ℕ
 law_text laws.Mu = codes "PCMU "
 law_text laws.A = codes "PCMA "
 
--- The address, the port and the law of a termination's Local or Remote.
+-- The address, the port and the law of a termination's Local or Remote, or `none`.
 abbrev pub media_text : Option Chosen → List ℕ
 media_text None = codes "none "
 media_text (Some c) =

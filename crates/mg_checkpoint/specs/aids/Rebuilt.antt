@@ -30,7 +30,8 @@ RepresentsBase given state =
     (b : World) × IsBase b × (without_speech b ≡ b) × (b.gateway.config ≡ given)
     × StandsFor state b
 
--- Whatever the state represents, it also represents each base of which a checkpoint says the same, without its speech.
+-- Suppose the state represents a base in which no RTP datagram has arrived. Then it also represents each base with the
+-- same configuration of which a checkpoint says the same, without its speech.
 abbrev pub RestoresWorlds : Config → CoreState → Type 0
 RestoresWorlds given state =
     (b w : World) → IsBase b → IsBase w → b.gateway.config ≡ given → w.gateway.config ≡ given

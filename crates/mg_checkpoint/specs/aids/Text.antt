@@ -1,4 +1,4 @@
--- The text of a checkpoint. No line of a script begins with the first word of one of these lines.
+-- The text of a checkpoint. Its lines and script lines begin with different words.
 use Rattle.std.specs.Prelude.{ℕ, ◌==◌, Bool, true, false, List, [], ◌∷◌, ◌++◌, codes, flat_map}
 use Rattle.std.specs.Prelude.{count_by}
 use Rattle.mg_words.specs.Mode.{mode_text}
@@ -61,7 +61,7 @@ listener_line listener numbers =
     numbered (codes "listener RTP/") listener
     ++ (codes "has " ++ (names numbers ++ codes "muted\n"))
 
--- The same, if there are any.
+-- The line of the talkers that a listener may not hear, or nothing if there are none.
 abbrev pub muted_line : ℕ → List ℕ → List ℕ
 muted_line listener [] = []
 muted_line listener (n ∷ ns) = listener_line listener (n ∷ ns)

@@ -41,7 +41,7 @@ pub record IsActionRun (base : Base) (kept : ActionKept) (run : ActionState) : T
   pub reply : kept.reply ≡ after_all base.reply run.items
   pub work : IsPaid base run.items kept.engine
 
--- An action after a command for all members, whose text has been checked.
+-- An action after a command for all members. The command's text has already been checked.
 abbrev pub with_all : List ℕ → Command → CommandParameters → ActionState → ActionState × Bool
 with_all source c parameters run =
     with_trial source c run (do

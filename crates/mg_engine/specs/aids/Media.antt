@@ -13,7 +13,7 @@ pub record SlotMedia : Type 0 where
   pub sequence : ℕ
   pub is_sending : Bool
 
--- The timestamp of the tick before.
+-- The timestamp of the previous tick, which is 160 samples earlier.
 abbrev pub timestamp_before : ℕ → ℕ
 timestamp_before n = (n + (2 ^ 32 - 160)) % 2 ^ 32
 

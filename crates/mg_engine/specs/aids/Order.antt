@@ -5,8 +5,8 @@ use Rattle.mg_engine.specs.declared.taken.Taken.{Taken}
 use Rattle.mg_engine.specs.Arrival.{Takes}
 use Rattle.mg_engine.specs.Gateway.{Gateway}
 
--- Two RTP datagrams arrive at two ports of a gateway whose terminations and contexts are
--- consistent. In either order, each has the same outcome, and the gateway ends in the same state.
+-- Two RTP datagrams arrive at two different ports of a gateway whose terminations and contexts are consistent. In
+-- either order, each has the same outcome, and the gateway ends in the same state.
 abbrev pub ArrivalOrderIsIrrelevant : Type 0
 ArrivalOrderIsIrrelevant =
     (w between last : Gateway) (port other : ℕ) (from source bytes list : List ℕ) (a b : Taken)

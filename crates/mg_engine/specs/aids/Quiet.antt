@@ -26,7 +26,7 @@ sent_of config s = record {
   octets = s.stats.os;
 }
 
--- The same, as it is stored for a slot.
+-- What a termination has sent, as it is stored for a slot.
 abbrev pub sent_in : SlotMedia → SentMedia
 sent_in m = record {
   timestamp = m.timestamp;
@@ -68,8 +68,8 @@ HaveDepths w = (n : ℕ) (r : Record) (s : TerminationMedia) → record_at w.roo
 
 -- ## Checkpoints
 
--- The same checkpoint is written of both gateways: they have the same configuration, terminations and contexts, each
--- termination has sent the same, and the last word on any two members of a context is the same.
+-- Both gateways have the same checkpoint: the same configuration, terminations and contexts. Each termination has sent
+-- the same, and the last word on any two members of a context is the same.
 pub record AgreeInCheckpoint (b w : Gateway) : Type 0 where
   pub config : b.config ≡ w.config
   pub rooms : b.rooms ≡ w.rooms

@@ -6,7 +6,7 @@ use Rattle.mg_heard.specs.declared.instant.Instant.{Instant}
 use Rattle.mg_heard.specs.Verdict.{gap_at, heard_at}
 
 -- After these entries, the sink still has the same question. It has also found the first matching interval and the
--- first matching gap, unless it had found them before.
+-- first matching gap, if there are any, unless it had found one before.
 pub record HasFound (start now : Instant) (xs : List Entry) : Type 0 where
   pub query : now.query ≡ start.query
   pub time : now.time ≡ start.time

@@ -19,7 +19,7 @@ pub record IsClock (older : List Note) (clock : Clock) : Type 0 where
 abbrev pub IsBefore : List Note → ℕ → Moment → Type 0
 IsBefore older tick m = (m.tick < tick) × IsDated older m
 
--- The stored intervals began before this tick.
+-- The stored intervals began before this tick, and their beginnings have the right dates.
 abbrev pub AreBegun : List Note → ℕ → List OpenInterval → Type 0
 AreBegun older tick stored = All (λ x. IsBefore older tick x.first) stored
 

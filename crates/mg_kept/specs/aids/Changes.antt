@@ -16,7 +16,7 @@ FewNewerStay =
     × (length (newer_than (with_reply reply replies) sender number)
     ≡ length (newer_than replies sender number) + 1)
 
--- If 31 replies are newer than a reply, keeping a reply to another request drops that reply.
+-- If 31 replies are newer than a reply, it is dropped when a reply to another request is kept.
 abbrev pub NewerRepliesEvict : Type 0
 NewerRepliesEvict =
     (replies : List KeptReply) (reply : KeptReply) (sender : List ℕ) (number : ℕ)

@@ -18,8 +18,8 @@ places_of waits [] = 0
 places_of waits (Action id ∷ xs) = (if waits then 0 else 1) + places_of false xs
 places_of waits (_ ∷ xs) = 1 + places_of true xs
 
--- The invariant of a reply. The last item shows whether items wait for the end of their action. The capacity is twice
--- the room, so that there is a place for the end of each item's action.
+-- The invariant of a reply. The last item shows whether items wait for the end of their action. The capacity is at
+-- least twice the initial room, so that there is a place for the end of each item's action.
 pub record IsReply (number : ℕ) (items : List Item) (capacity room : ℕ)
     (has_pending : Bool) : Type 0 where
   pub in_range : number < 2 ^ 32

@@ -1,4 +1,4 @@
--- The entry of a room when a member enters or leaves its context.
+-- The entry of a room after a member enters or leaves the room's context.
 use Rattle.std.specs.Prelude.{ℕ, [], ◌∷◌, ◌++◌, Option, Some, None}
 use Rattle.mg_rooms.specs.declared.context.Context.{Context}
 use Rattle.mg_rooms.specs.Changes.{with_members}

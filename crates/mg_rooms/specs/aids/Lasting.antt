@@ -4,7 +4,8 @@ use Rattle.mg_rooms.specs.declared.record.Record.{Record}
 use Rattle.mg_rooms.specs.declared.context.Context.{Context}
 use Rattle.mg_rooms.specs.Registry.{Registry, record_at, context_at}
 
--- A termination keeps its slot, a member its seat, and a context its room as long as each exists.
+-- A termination keeps its slot and a context its room as long as it exists, and a member keeps its seat as long as it
+-- is in the context.
 pub record Lasts (w after : Registry) : Type 0 where
   pub slot : (n : ℕ) (r s : Record) → record_at w n ≡ Some r → record_at after n ≡ Some s → s.slot
       ≡ r.slot

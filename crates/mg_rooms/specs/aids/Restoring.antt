@@ -12,7 +12,7 @@ use Rattle.mg_rooms.specs.aids.Order.{place}
 
 -- ## The next numbers
 
--- Whether the next numbers may be raised to these.
+-- Whether the next numbers may be raised to these numbers.
 abbrev pub may_skip : Registry → ℕ → ℕ → Bool
 may_skip w termination context =
     nat_le w.next_termination termination

@@ -19,7 +19,7 @@ use Rattle.mg_serve.specs.Setup.{Setup}
 use Rattle.mg_serve.specs.Trace.{TraceEntry, Called, Happened, calls_of}
 use Rattle.mg_serve.specs.aids.Outside.{JournalView}
 
--- A number of ticks since an append, after one more tick. Without a journal, the number doesn't change.
+-- A number of ticks after one more tick. Without a journal, the number doesn't change.
 abbrev pub after_one_tick : Option Durability → ℕ → ℕ
 after_one_tick None ticks = ticks
 after_one_tick (Some durability) ticks = ticks + 1

@@ -50,7 +50,7 @@ abbrev pub is_within : ℕ → ℕ → List MessageItem → Bool
 is_within requests commands xs =
     nat_le (requests_in xs) requests && nat_le (commands_in xs) commands
 
--- The message if it is within the limits, and otherwise the fault.
+-- The message if it is within the limits, and otherwise a fault.
 abbrev pub answer_of : ℕ → Result Message ReadFault → Result Message ReadFault
 answer_of len (Ok m) =
     if is_within request_limit command_limit (items_of m.body) then Ok m else Err TooMany

@@ -50,7 +50,7 @@ headed optional wildcard keyword =
     option_map (λ word. record { word = word; is_optional = optional; wants_wildcard = wildcard })
     (command_named keyword)
 
--- The command after a prefix, or another result if the prefix is missing.
+-- The command after a prefix, or the other result if the prefix is missing.
 abbrev pub prefixed : Bool → Bool → Option (List ℕ) → Option CommandHead → Option CommandHead
 prefixed optional wildcard (Some rest) other = by_keyword (headed optional wildcard) rest
 prefixed optional wildcard None other = other

@@ -182,7 +182,7 @@ a_killed_gateway_is_replaced(_) ->
     A = gateway:start(),
     B = gateway:start(),
     Gs = #{<<"a">> => A, <<"b">> => B},
-    %% All tries take 20 s, so only ICMP from the gateway's host reveals the loss in time.
+    %% The tries take 20 s in all, so only ICMP from the gateway's host reveals the loss in time.
     run(maps:to_list(Gs), #{retry => 1000, tries => 20}),
     ok = people:create(<<"100">>, [{deny, everyone, {member, 3}}]),
     [join(<<"100">>, N, <<"member">>) || N <- lists:seq(1, 30)],
@@ -340,7 +340,7 @@ one_with_a_journal_comes_back(Config) ->
     end, G, [1, 2]),
     receive {moved, Id, Local} -> error({moved, Id, Local}) after 0 -> ok end.
 
-%% The gateway is back soon. Calls continue, whether or not the controller missed it.
+%% The gateway is back soon. Calls continue, whether or not the controller noticed that it was gone.
 one_that_comes_back_soon_is_not_missed(Config) ->
     {G, Journal} = journaled(5000, [], Config),
     Before = people:describe(<<"100">>),
@@ -356,7 +356,7 @@ one_that_comes_back_soon_is_not_missed(Config) ->
     ?assertEqual(0, count(lobby_gateway_losses_total)).
 
 %% The gateway's packet counts begin at 0 again, which reveals the restart. The controller counts it once for the
-%% conference, whether or not it missed the gateway.
+%% conference, whether or not it noticed that the gateway was gone.
 one_that_comes_back_soon_is_seen(Config) ->
     ok = application:set_env(lobby, room_audit, 500),
     {G, Journal} = journaled(5000, [], Config),

@@ -48,7 +48,7 @@ what_is_missing_is_a_bad_request() ->
     ?assertMatch({refused, 400, _}, decode(without("From") ++ ["From: garbage;tag=1"])),
     ?assertMatch({refused, 400, _}, decode(without("CSeq") ++ ["CSeq: 2147483648 INVITE"])),
     ?assertMatch({refused, 400, _}, decode(?INVITE ++ ["Content-Length: 5"])),
-    %% The response contains a malformed header unchanged.
+    %% The response has the value of a malformed header unchanged.
     {refused, 400, Message} = decode(without("CSeq") ++ ["CSeq: -1 INVITE"]),
     Text = lobby_sip_message:encode(lobby_sip_message:response(400, Message, <<"t">>, {[], <<>>})),
     ?assertNotEqual(nomatch, binary:match(Text, <<"\r\ncseq: -1 INVITE\r\n">>)).

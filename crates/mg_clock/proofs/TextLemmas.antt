@@ -4,7 +4,8 @@ use Rattle.std.proofs.lemmas.List.{append-nil}
 use Rattle.std.proofs.lemmas.Nat.{div-add-mod', div-mul-add, mod-mul-add, mod_below}
 use Rattle.std.proofs.lemmas.Bool.Decides.{nat_tests}
 use Rattle.std.specs.List.{repeat}
-use Rattle.mg_clock.specs.Text.{text, poll_line, tick_line, period_lines, step_lines}
+use Rattle.mg_clock.specs.Text.{text, poll_line, tick_line, period_lines}
+use Rattle.mg_clock.specs.aids.Steps.{step_lines}
 
 repeat_suc : {A : Type 0} (n : ℕ) (xs : List A) → repeat (suc n) xs ≡ repeat n xs ++ xs
 repeat_suc zero xs = append-nil xs

@@ -1,3 +1,4 @@
 pub mod Due
 pub mod Text
 pub mod Ticks
+pub mod aids

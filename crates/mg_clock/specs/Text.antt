@@ -1,5 +1,5 @@
 -- The lines of polls and ticks.
-use Rattle.std.specs.Prelude.{ℕ, ◌/◌, ◌%◌, ◌==◌, List, ◌++◌, codes, if◌then◌else◌}
+use Rattle.std.specs.Prelude.{ℕ, ◌/◌, ◌%◌, List, ◌++◌, codes}
 use Rattle.std.specs.List.{repeat}
 
 abbrev pub poll_line : List ℕ
@@ -7,10 +7,6 @@ poll_line = codes "poll\n"
 
 abbrev pub tick_line : List ℕ
 tick_line = codes "tick\n"
-
--- The lines of the step with this number, counted from 1.
-abbrev pub step_lines : ℕ → ℕ → List ℕ
-step_lines polls step = if step % polls == 0 then poll_line ++ tick_line else poll_line
 
 -- The lines of one period of 20 ms: its polls, and then the tick.
 abbrev pub period_lines : ℕ → List ℕ

@@ -4,7 +4,7 @@ use Rattle.std.specs.List.{list_all}
 use Rattle.std.specs.Option.{unwrap_or, option_or}
 use Rattle.std.proofs.lemmas.Bool.{and_parts, leb-true}
 use Rattle.std.proofs.lemmas.List.{drop_more, drop_all}
-use Rattle.mg_engine.specs.Triples.{triple_limit}
+use Rattle.mg_engine.specs.aids.Triples.{triple_limit}
 use Rattle.mg_text.specs.declared.context_property.ContextProperty.{ContextProperty}
 use Rattle.mg_text.specs.declared.context_property.ContextProperty.TheVariants as properties
 use Rattle.mg_text.specs.declared.context_property.NamedTriple.{NamedTriple}

@@ -5,7 +5,7 @@ ghost use Rattle.mg_reply.specs.Reply.{after_all};
 ghost use Rattle.mg_engine.specs.Gateway.{Gateway};
 ghost use Rattle.mg_engine.specs.Outcome.{apply_triples};
 ghost use Rattle.mg_engine.specs.aids.Stands.{StandsFor, IsOutcome};
-ghost use Rattle.mg_engine.specs.Triples.{triple_limit};
+ghost use Rattle.mg_engine.specs.aids.Triples.{triple_limit};
 ghost use Rattle.mg_commands.specs.ContextProperties.{term_of, topology_triple_of, triples_in, triples_of, audit_items, context_outcome};
 ghost use Rattle.mg_commands.specs.Search.{first_of};
 ghost use Rattle.mg_commands.specs.aids.Runs.{ReportsProperties};

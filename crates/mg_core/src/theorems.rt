@@ -126,9 +126,9 @@ pub fn worlds_are_consistent()
 
 /// Between two control datagrams or ticks, the order of RTP datagrams at different ports does not matter.
 ///
-/// Suppose two lists of events contain the same control datagrams and ticks, in the same order. Suppose also that
-/// between two of these, before the first and after the last, each port receives the same RTP datagrams in the same
-/// order. Then the gateway sends the same datagrams for both lists, and ends in the same world.
+/// Suppose two lists of events contain the same control datagrams and ticks, in the same order. Between any two of
+/// these, and also before the first and after the last, each port receives the same RTP datagrams in the same order.
+/// Then the gateway sends the same datagrams for both lists, and ends in the same world.
 pub fn port_order_is_irrelevant()
     ensures events { PortOrderIsIrrelevant }
     ensures scripts { PortOrderInScripts }

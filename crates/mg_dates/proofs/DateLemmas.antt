@@ -5,7 +5,8 @@ use Rattle.mg_chain.proofs.SealLemmas.{plain}
 use Rattle.mg_chain.specs.Seals.{IsSeal}
 use Rattle.mg_journal.specs.declared.append_fault.AppendFault.{AppendFault}
 use Rattle.mg_journal.specs.declared.durability.Durability.{Durability}
-use Rattle.mg_journal.specs.Journal.{JournalState, Appends, Renews, text_to_seal}
+use Rattle.mg_journal.specs.Journal.{JournalState, Appends, renewed, text_to_seal}
+use Rattle.mg_journal.specs.JournalFile.{Changes}
 use Rattle.mg_journal.specs.Text.{EndsInLineFeed}
 use Rattle.mg_journal.proofs.TextLemmas.{ends_line}
 use Rattle.mg_ports.specs.Journaled.{AppendsDated, IsComment, RenewsDated}
@@ -50,13 +51,13 @@ dates seal text lines written durability old new result sealed short is appends 
 -- If the journal was replaced by a text that is joined to it, `RenewsDated` holds.
 pub renews : (text date written : List ℕ) (durability : Durability) (old new : JournalState)
     (result : Result (Unit {0}) AppendFault) → IsShortLine date → IsJoined (text_to_seal old) date text written
-    → Renews written durability old new result → RenewsDated text durability old new result
-renews text date written durability old new result short joint renewed = (
+    → Changes (renewed written durability) old new result → RenewsDated text durability old new result
+renews text date written durability old new result short joint changed = (
   joint.follows,
   codes "# time " ++ (date ++ codes "\n"),
   joint.is,
   inr (is_comment date short, refl),
-  subst (λ (l : List ℕ). Renews l durability old new result) joint.joined renewed,
+  subst (λ (l : List ℕ). Changes (renewed l durability) old new result) joint.joined changed,
 )
 
 regrouped : (old follows mark date feed : List ℕ)

@@ -14,10 +14,6 @@ use Rattle.mg_engine.specs.declared.topology_triple.TopologyTriple.{TopologyTrip
 use Rattle.mg_engine.specs.Gateway.{ContextEdit, Apply}
 use Rattle.mg_engine.specs.Flow.{has}
 
--- The maximum number of triples in an edit. A control datagram that is read cannot hold more.
-abbrev pub triple_limit : ℕ
-triple_limit = 1200
-
 -- The terminations that a term matches: all members, the termination that the term names, or none.
 abbrev pub matched : List ℕ → TripleTerm → List ℕ
 matched members Every = members

@@ -19,7 +19,7 @@ ghost use Rattle.mg_engine.specs.Unaffected.{EditsDoNotAffectOthers, DatagramsDo
 ghost use Rattle.mg_engine.specs.aids.Order.{ArrivalOrderIsIrrelevant};
 ghost use Rattle.mg_engine.specs.Isolation.{NoneHearsItself, OwnSpeechChangesNoPacket, PacketsDependOnHeard, IsolatedAreNotHeard, UnheardChangesNoPacket, PayloadsAreMixes};
 ghost use Rattle.mg_engine.specs.Restored.{without_speech};
-ghost use Rattle.mg_engine.specs.Triples.{triple_limit};
+ghost use Rattle.mg_engine.specs.aids.Triples.{triple_limit};
 ghost use Rattle.mg_engine.specs.aids.Quiet.{AgreeInCheckpoint, HaveDepths, IsQuiet};
 ghost use Rattle.mg_engine.specs.aids.Stands.{EngineState, StandsFor};
 

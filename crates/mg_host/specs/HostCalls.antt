@@ -1,6 +1,6 @@
 -- The calls on a host, as far as they are known.
 use Rattle.std.specs.Prelude.{◌≡◌, ℕ, Bool, true, List, [], ◌∷◌, ◌++◌, map, slice_set}
-use Rattle.std.specs.Prelude.{Option, Some, None, IfSome, IsSomeAnd, Result, Ok, Err, is_ok}
+use Rattle.std.specs.Prelude.{Option, Some, None, IfSome, Result, Ok, Err, is_ok}
 use Rattle.mg_host.specs.declared.host_call.HostCall.{HostCall}
 use Rattle.mg_host.specs.declared.host_call.HostCall.TheVariants.{OpenText}
 use Rattle.mg_host.specs.declared.host_call.HostCall.TheVariants.{Reported, Poll, OnPorts}
@@ -9,10 +9,7 @@ use Rattle.mg_ports.specs.declared.call.Call.{Call}
 use Rattle.mg_ports.specs.declared.call.Call.TheVariants.{Receive, Send}
 use Rattle.mg_ports.specs.declared.receipt.Receipt.TheVariants.{Nothing}
 use Rattle.std.specs.Option.{option_map}
-
--- The log grows by these calls. A host may lose its log; if the log is known at the end, it was known all along.
-abbrev pub Grows : Option (List HostCall) → Option (List HostCall) → List HostCall → Type 0
-Grows old new calls = IfSome new (λ all. IsSomeAnd old (λ before. all ≡ before ++ calls))
+pub use Rattle.mg_ports.specs.Calls.{Grows}
 
 -- If there is a log, the known bytes are the bytes in the log.
 abbrev pub IsLogged : Option (List HostCall) → (known : Option (List ℕ)) → List ℕ → Type 0

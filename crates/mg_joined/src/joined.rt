@@ -34,7 +34,7 @@ pub struct Joined<B: BufRead, K: TextsKey> {
     later: VecDeque<Later<B>>,
     /// Lines of the file.
     front: Vec<u8>,
-    /// The number of bytes of these lines that were read.
+    /// How many bytes of these lines the caller has read.
     at: usize,
     /// Whether a read of a file failed.
     is_broken: bool,
@@ -233,7 +233,8 @@ impl<B: BufRead + Drop, K: TextsKey> Joined<B, K> {
 fn count_lines(text: &[u8]) -> u64 {
     let mut count: u64 = 0;
     for byte in text {
-        count = count.saturating_add(u64::from(*byte == b'\n'));
+        // The sum can't wrap: it is at most the text's length.
+        count = count.wrapping_add(u64::from(*byte == b'\n'));
     }
     match text.last() {
         None | Some(b'\n') => count,

@@ -14,7 +14,7 @@ use Rattle.mg_journal.specs.declared.durability.Durability.TheVariants.{Written,
 use Rattle.mg_journal.specs.declared.extent.Extent.{Extent}
 use Rattle.mg_journal.specs.Journal.{is_final, is_synced, text_to_seal}
 use Rattle.mg_journal.specs.Text.{IsWhole, whole_lines}
-use Rattle.mg_journal.specs.JournalFile.{FileState, Cuts, grown, synced}
+use Rattle.mg_journal.specs.JournalFile.{FileState, Changes, cut_to, grown, synced}
 use Rattle.mg_journal.specs.aids.Appending.{IsHashed, IsJournal, Leaves, journal_in}
 use Rattle.mg_journal.specs.aids.LastPart.{HasHash}
 use Rattle.mg_journal.specs.aids.Opening.{HasExtent, IsExtent}
@@ -70,7 +70,7 @@ cut_of None len hasher holds = tt
 cut_of (Some bytes) len hasher holds = holds
 
 pub hash_cut : {E : Type 0} (result : Result (Unit {0}) E) (file new : FileState) (extent : Extent) (hasher : Sha256)
-    → Cuts extent.whole file new result → HasHash file extent.whole hasher → OnOk result (IsHashed new hasher false)
+    → Changes (cut_to extent.whole) file new result → HasHash file extent.whole hasher → OnOk result (IsHashed new hasher false)
 hash_cut (Ok done) file new extent hasher cut holds =
     subst (λ (f : FileState). IsHashed f hasher false) (sym cut) (cut_of file.bytes extent.whole hasher holds)
 hash_cut (Err error) file new extent hasher cut holds = tt

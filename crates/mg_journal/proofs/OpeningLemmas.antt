@@ -8,7 +8,7 @@ use Rattle.std.specs.Io.KnownBytes.{Consumes}
 use Rattle.std.proofs.KnownBytes.{starts_with_rest}
 use Rattle.mg_journal.specs.declared.extent.Extent.{Extent}
 use Rattle.mg_journal.specs.Text.{whole_lines, IsWhole}
-use Rattle.mg_journal.specs.JournalFile.{FileState, Cuts, HasAt, ReadsAt, cut_to}
+use Rattle.mg_journal.specs.JournalFile.{FileState, Changes, HasAt, ReadsAt, cut_to}
 use Rattle.mg_journal.specs.Opening.{IsSound, IsWithin}
 use Rattle.mg_journal.specs.aids.Opened.{text_in}
 use Rattle.mg_journal.specs.aids.Appending.{IsJournal}
@@ -196,7 +196,7 @@ pub no_partial : (file : FileState) (extent : Extent) → extent.whole ≡ exten
 no_partial file extent all is sound =
     (all_whole file.bytes extent is all, all_within file.bytes file.synced extent is sound all)
 
-cut_as : {E : Type 0} (result : Result (Unit {0}) E) (file new : FileState) (extent : Extent) → Cuts extent.whole file new result
+cut_as : {E : Type 0} (result : Result (Unit {0}) E) (file new : FileState) (extent : Extent) → Changes (cut_to extent.whole) file new result
     → HasExtent file extent → OnOk result (IsJournal new extent.whole false) × OnOk result (text_in new ≡ text_in file)
 cut_as (Ok done) file new extent cut is =
     let journal = cut_partial file extent is in
@@ -204,11 +204,11 @@ cut_as (Ok done) file new extent cut is =
 cut_as (Err error) file new extent cut is = (tt, tt)
 
 pub journal_cut : {E : Type 0} (result : Result (Unit {0}) E) (file new : FileState) (extent : Extent)
-    → Cuts extent.whole file new result → HasExtent file extent → OnOk result (IsJournal new extent.whole false)
+    → Changes (cut_to extent.whole) file new result → HasExtent file extent → OnOk result (IsJournal new extent.whole false)
 journal_cut result file new extent cut is = (cut_as result file new extent cut is).0
 
 pub text_cut : {E : Type 0} (result : Result (Unit {0}) E) (file new : FileState) (extent : Extent)
-    → Cuts extent.whole file new result → HasExtent file extent → OnOk result (text_in new ≡ text_in file)
+    → Changes (cut_to extent.whole) file new result → HasExtent file extent → OnOk result (text_in new ≡ text_in file)
 text_cut result file new extent cut is = (cut_as result file new extent cut is).1
 
 -- The length of the partial last line is the difference between the two lengths of the extent.

@@ -66,9 +66,3 @@ renewed text durability old = record {
   synced = if is_synced durability then option_map (λ before. text) old.text else option_map (λ before. []) old.synced;
   is_broken = false;
 }
-
--- Another journal with this text took the journal's place. If that failed, nothing changed.
-abbrev pub Renews : List ℕ → Durability → JournalState → JournalState
-    → Result (Unit {0}) AppendFault → Type 0
-Renews text durability old new (Ok done) = new ≡ renewed text durability old
-Renews text durability old new (Err fault) = new ≡ old

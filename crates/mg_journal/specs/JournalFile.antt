@@ -41,6 +41,11 @@ abbrev pub HasAt : FileState → ℕ → List ℕ → Type 0
 HasAt file at part =
     IfSome file.bytes (λ bytes. StartsWith (drop at bytes) part × (part ≡ [] → drop at bytes ≡ []))
 
+-- A call that may fail changed a state in this way, or failed and changed nothing.
+abbrev pub Changes : {S E : Type 0} → (S → S) → (old new : S) → Result (Unit {0}) E → Type 0
+Changes change old new (Ok done) = new ≡ change old
+Changes change old new (Err error) = new ≡ old
+
 module _ {E : Type 0} where
   -- A read at an offset returned some bytes, or failed. The file is unchanged.
   abbrev pub ReadsAt : ℕ → List ℕ → FileState → FileState → Result ℕ E → Type 0
@@ -52,16 +57,3 @@ module _ {E : Type 0} where
   abbrev pub WritesSome : List ℕ → FileState → FileState → Result ℕ E → Type 0
   WritesSome text old new (Ok n) = (n ≤ length text) × (new ≡ grown old (take n text))
   WritesSome text old new (Err error) = new ≡ old
-
-  abbrev pub Cuts : ℕ → FileState → FileState → Result (Unit {0}) E → Type 0
-  Cuts len old new (Ok done) = new ≡ cut_to len old
-  Cuts len old new (Err error) = new ≡ old
-
-  abbrev pub Syncs : FileState → FileState → Result (Unit {0}) E → Type 0
-  Syncs old new (Ok done) = new ≡ synced old
-  Syncs old new (Err error) = new ≡ old
-
-  -- Another file took the file's place. If that failed, the file is unchanged.
-  abbrev pub Replaces : (next old new : FileState) → Result (Unit {0}) E → Type 0
-  Replaces next old new (Ok done) = new ≡ next
-  Replaces next old new (Err error) = new ≡ old

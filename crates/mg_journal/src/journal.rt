@@ -1,6 +1,7 @@
 ghost use Rattle.std.specs.Prelude.{◌≡◌, ◌-◌, length, slice_index};
 ghost use Rattle.mg_journal.specs.Text.{EndsInLineFeed};
-ghost use Rattle.mg_journal.specs.Journal.{JournalState, Appends, Renews, text_to_seal};
+ghost use Rattle.mg_journal.specs.Journal.{JournalState, Appends, renewed, text_to_seal};
+ghost use Rattle.mg_journal.specs.JournalFile.{Changes};
 ghost use Rattle.mg_chain.specs.Seals.{IsSealEnd};
 
 use crate::append_fault::AppendFault;
@@ -35,7 +36,7 @@ pub trait Journal {
         durability: Durability,
     ) -> Result<(), AppendFault>
         requires line_feed { EndsInLineFeed text.now }
-        ensures value { Renews text.now durability (journal self.old) (journal self.new) result };
+        ensures value { Changes (renewed text.now durability) (journal self.old) (journal self.new) result };
 
     /// Returns the end of the seal of the last part of the journal's text (`mg_chain`). If the journal is broken, it
     /// can be the seal of any text.

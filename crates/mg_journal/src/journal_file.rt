@@ -1,5 +1,5 @@
 ghost use Rattle.std.specs.Prelude.{◌≡◌, IfOk};
-ghost use Rattle.mg_journal.specs.JournalFile.{FileState, ReadsAt, WritesSome, Cuts, Syncs, Replaces, emptied, unknown};
+ghost use Rattle.mg_journal.specs.JournalFile.{FileState, Changes, ReadsAt, WritesSome, cut_to, emptied, synced, unknown};
 
 use std::io;
 
@@ -18,11 +18,11 @@ pub trait JournalFile {
 
     /// Truncates the file to this length, if the file is longer.
     fn cut(&mut self, len: u64) -> io::Result<()>
-        ensures value { Cuts len (file self.old) (file self.new) result };
+        ensures value { Changes (cut_to len) (file self.old) (file self.new) result };
 
     /// Waits until the whole file is on the disk.
     fn sync(&mut self) -> io::Result<()>
-        ensures value { Syncs (file self.old) (file self.new) result };
+        ensures value { Changes synced (file self.old) (file self.new) result };
 
     /// Returns whether the file's path still leads to this file, and the file has this length, in bytes.
     fn is_there(&mut self, len: u64) -> io::Result<bool>
@@ -39,5 +39,5 @@ pub trait JournalFile {
 
     /// Replaces this file by the next one, at once: whoever opens the file's path finds either this file or the next one.
     fn replace(&mut self, next: Self) -> io::Result<()>
-        ensures value { Replaces (file next) (file self.old) (file self.new) result };
+        ensures value { Changes (λ _. file next) (file self.old) (file self.new) result };
 }

@@ -7,7 +7,7 @@ use Rattle.mg_lines.specs.Streams.{Writes}
 use Rattle.mg_lines.proofs.WriterLemmas.{appends_then, longer}
 use Rattle.mg_clock.specs.Text.{text}
 use Rattle.mg_pacer.specs.aids.Steps.{WritesLast, WritesSteps, quit_line}
-use Rattle.mg_clock.specs.Text.{step_lines}
+use Rattle.mg_clock.specs.aids.Steps.{step_lines}
 use Rattle.mg_clock.proofs.TextLemmas.{text_more}
 
 -- The lines of a longer run begin with the lines of a shorter run.

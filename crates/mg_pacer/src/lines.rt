@@ -2,7 +2,7 @@ ghost use Rattle.std.specs.Prelude.{◌≡◌, ◌+◌, ◌*◌, ◌<◌, ◌≤
 ghost use Rattle.std.specs.Io.KnownBytes.{Appends};
 ghost use Rattle.mg_lines.specs.Streams.{Writes};
 ghost use Rattle.mg_pacer.specs.aids.Steps.{WritesLast, WritesSteps};
-ghost use Rattle.mg_clock.specs.Text.{step_lines};
+ghost use Rattle.mg_clock.specs.aids.Steps.{step_lines};
 
 use mg_lines::{WriteFailed, write_whole};
 use std::io::Write;

@@ -3,7 +3,8 @@ use Rattle.std.proofs.Common.{◌≡◌, ℕ, List, [], ◌∷◌, ◌++◌, cod
 use Rattle.mg_chain.specs.Seals.{IsFollowing, IsSealEnd, last_part, seal_end}
 use Rattle.mg_journal.specs.declared.append_fault.AppendFault.{AppendFault}
 use Rattle.mg_journal.specs.declared.durability.Durability.{Durability}
-use Rattle.mg_journal.specs.Journal.{JournalState, Renews, text_to_seal}
+use Rattle.mg_journal.specs.Journal.{JournalState, renewed, text_to_seal}
+use Rattle.mg_journal.specs.JournalFile.{Changes}
 use Rattle.mg_journal.specs.Text.{EndsInLineFeed}
 use Rattle.mg_journal.proofs.TextLemmas.{ends_line}
 use Rattle.mg_ports.specs.Journaled.{RenewsDated}
@@ -34,13 +35,13 @@ follows_feed known text end new (part, is, same) joined =
 -- If a journal was renewed with a text and that line, `RenewsDated` holds.
 pub renews_joined : (text end written : List ℕ) (durability : Durability) (old new : JournalState)
     (result : Result (Unit {0}) AppendFault) → IsSealEnd (text_to_seal old) end
-    → written ≡ text ++ (codes "# follows " ++ end) → Renews written durability old new result
+    → written ≡ text ++ (codes "# follows " ++ end) → Changes (renewed written durability) old new result
     → RenewsDated text durability old new result
-renews_joined text end written durability old new result is joined renewed = (
+renews_joined text end written durability old new result is joined changed = (
   codes "# follows " ++ end,
   [],
   (end, is, refl),
   inl refl,
-  subst (λ (l : List ℕ). Renews l durability old new result)
-      (joined ∙ ap (λ (l : List ℕ). text ++ l) (sym (append-nil (codes "# follows " ++ end)))) renewed,
+  subst (λ (l : List ℕ). Changes (renewed l durability) old new result)
+      (joined ∙ ap (λ (l : List ℕ). text ++ l) (sym (append-nil (codes "# follows " ++ end)))) changed,
 )

@@ -1,17 +1,15 @@
 -- The calls on a gateway's ports, as far as they are known.
 use Rattle.std.specs.Prelude.{◌≡◌, ◌⊎◌, ℕ, ◌-◌, ◌^◌, ◌<◌, List, ◌++◌, take, Option, Some, None}
-use Rattle.std.specs.Prelude.{Result, Ok, Err}
+use Rattle.std.specs.Prelude.{Result, Ok, Err, IfSome, IsSomeAnd}
 use Rattle.mg_words.specs.declared.peer.Peer.{Peer}
 use Rattle.mg_ports.specs.declared.port_fault.PortFault.{PortFault}
 use Rattle.mg_ports.specs.declared.call.Call.{Call}
 use Rattle.mg_ports.specs.declared.receipt.Receipt.{Receipt}
 use Rattle.mg_ports.specs.declared.receipt.Receipt.TheVariants.{Delivered, Nothing, Failed}
 
--- The log grows by these calls. Ports may lose their log; if the log is known at the end, it was known all along.
-abbrev pub Logged : Option (List Call) → Option (List Call) → List Call → Type 0
-Logged old None calls = Unit {0}
-Logged None (Some all) calls = ⊥
-Logged (Some before) (Some all) calls = all ≡ before ++ calls
+-- A log grows by these calls. Ports and hosts may lose their log; if it is known at the end, it was known all along.
+abbrev pub Grows : {C : Type 0} → (old new : Option (List C)) → List C → Type 0
+Grows old new calls = IfSome new (λ all. IsSomeAnd old (λ before. all ≡ before ++ calls))
 
 -- A failure was counted. A counter that reaches its maximum stays there.
 abbrev pub IsCounted : ℕ → ℕ → Type 0

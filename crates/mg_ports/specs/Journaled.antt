@@ -4,7 +4,8 @@ use Rattle.std.specs.Prelude.{Option, Result}
 use Rattle.mg_journal.specs.declared.append_fault.AppendFault.{AppendFault}
 use Rattle.mg_journal.specs.declared.durability.Durability.{Durability}
 use Rattle.mg_chain.specs.Seals.{IsFollowing, IsSeal, is_seal}
-use Rattle.mg_journal.specs.Journal.{JournalState, Appends, Renews, text_to_seal}
+use Rattle.mg_journal.specs.Journal.{JournalState, Appends, renewed, text_to_seal}
+use Rattle.mg_journal.specs.JournalFile.{Changes}
 use Rattle.mg_ports.specs.declared.call.Call.{Call}
 use Rattle.mg_ports.specs.declared.call.Call.TheVariants.{Append, Renew}
 
@@ -38,7 +39,7 @@ abbrev pub RenewsDated : List ℕ → Durability → JournalState → JournalSta
 RenewsDated text durability old new result =
     (follows comment : List ℕ) × IsFollowing (text_to_seal old) follows
     × ((comment ≡ []) ⊎ (IsComment comment × (is_seal comment ≡ false)))
-    × Renews (text ++ (follows ++ comment)) durability old new result
+    × Changes (renewed (text ++ (follows ++ comment)) durability) old new result
 
 -- The journal after these calls. Each append and each renewal changes it as defined, and no other call changes it.
 abbrev pub JournalAfter : List Call → JournalState → JournalState → Type 0

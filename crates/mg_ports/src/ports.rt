@@ -3,7 +3,7 @@ ghost use Rattle.mg_ports.specs.declared.call.Call.{Call};
 ghost use Rattle.mg_ports.specs.declared.call.Call.TheVariants.{Receive, Send, BeginTick, Append, Renew};
 ghost use Rattle.mg_journal.specs.Text.{EndsInLineFeed};
 ghost use Rattle.mg_journal.specs.Journal.{JournalState, no_journal};
-ghost use Rattle.mg_ports.specs.Calls.{Logged, IsCounted, receipt_of};
+ghost use Rattle.mg_ports.specs.Calls.{Grows, IsCounted, receipt_of};
 ghost use Rattle.mg_ports.specs.Journaled.{AppendsDated, RenewsDated};
 
 use crate::failure_causes::FailureCauses;
@@ -34,27 +34,27 @@ pub trait Ports {
         buffer: &mut [u8],
     ) -> Result<Option<(usize, Peer)>, PortFault>
         ensures within { IfOk result (λ received. IfSome received (λ d. d.0 ≤ length buffer.new)) }
-        ensures logged { Logged (calls self.old) (calls self.new) (Receive socket (receipt_of result buffer.new) ∷ []) }
+        ensures logged { Grows (calls self.old) (calls self.new) (Receive socket (receipt_of result buffer.new) ∷ []) }
         ensures fault { OnErr result (IsCounted (failed self.old) (failed self.new)) }
         ensures journal { journal self.new ≡ journal self.old };
 
     /// Sends a datagram. Never blocks.
     fn send(&mut self, socket: usize, to: Peer, bytes: &[u8]) -> Result<(), PortFault>
-        ensures logged { Logged (calls self.old) (calls self.new) (Send socket to bytes.now ∷ []) }
+        ensures logged { Grows (calls self.old) (calls self.new) (Send socket to bytes.now ∷ []) }
         ensures fault { OnErr result (IsCounted (failed self.old) (failed self.new)) }
         ensures journal { journal self.new ≡ journal self.old };
 
     /// Begins a tick, whose packets are sent next. If the tick is late, ports on a network fail every send from a media
     /// socket until the next tick.
     fn begin_tick(&mut self, timing: Timing)
-        ensures logged { Logged (calls self.old) (calls self.new) (BeginTick timing ∷ []) }
+        ensures logged { Grows (calls self.old) (calls self.new) (BeginTick timing ∷ []) }
         ensures journal { journal self.new ≡ journal self.old };
 
     /// Appends all of the lines to the journal or none, unless the journal breaks. The last line must end in a line
     /// feed. A seal and a comment with the time of day may precede the lines. Fails if there is no journal.
     fn append(&mut self, lines: &[u8], durability: Durability) -> Result<(), AppendFault>
         requires line_feed { EndsInLineFeed lines.now }
-        ensures logged { Logged (calls self.old) (calls self.new) (Append lines.now durability result ∷ []) }
+        ensures logged { Grows (calls self.old) (calls self.new) (Append lines.now durability result ∷ []) }
         ensures journal { AppendsDated lines.now durability (journal self.old) (journal self.new) result };
 
     /// Replaces the journal by one with this text, which ends in a line feed. After the text comes a line with the hash
@@ -62,7 +62,7 @@ pub trait Ports {
     /// unchanged. Fails if there is no journal.
     fn renew(&mut self, text: &mut Vec<u8>, durability: Durability) -> Result<(), AppendFault>
         requires line_feed { EndsInLineFeed text.old.items }
-        ensures logged { Logged (calls self.old) (calls self.new) (Renew text.old.items durability result ∷ []) }
+        ensures logged { Grows (calls self.old) (calls self.new) (Renew text.old.items durability result ∷ []) }
         ensures journal { RenewsDated text.old.items durability (journal self.old) (journal self.new) result };
 
     /// Returns whether the journal is due to be renewed. Asked after each tick.

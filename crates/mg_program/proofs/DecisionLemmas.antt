@@ -4,7 +4,6 @@ use Rattle.std.proofs.Math.Logic.{∥∥₁_map}
 use Rattle.std.specs.Prelude.{IfSome, is_ok, slice_set}
 use Rattle.mg_clock.specs.declared.timing.Timing.{Timing}
 use Rattle.mg_ports.specs.declared.call.Call.{Call}
-use Rattle.mg_ports.specs.Calls.{Logged}
 use Rattle.mg_host.specs.declared.host_call.HostCall.{HostCall}
 use Rattle.mg_host.specs.declared.host_call.HostCall.TheVariants.{Poll, Reported}
 use Rattle.mg_host.specs.HostCalls.{Grows, Polls, mark_all, on_ports, port_calls}
@@ -39,7 +38,7 @@ does_one (Some a) (Some b) call k grows may = (call ∷ [], grows, refl, (may, r
 
 -- If the host did a session's calls, the session's log has grown by these calls.
 pub does_logged : (a b : Option (List HostCall)) (p : List Call) (k n : Knows) → DoesCalls a b p k n
-    → Logged (port_calls a) (port_calls b) p
+    → Grows (port_calls a) (port_calls b) p
 does_logged a None p k n h = tt
 does_logged None (Some b) p k n h = absurd h
 does_logged (Some a) (Some b) p k n (done, all, are, decides) =

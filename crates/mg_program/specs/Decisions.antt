@@ -4,7 +4,7 @@ use Rattle.std.specs.Prelude.{Option, IfSome, replicate, slice_index, slice_inde
 use Rattle.mg_clock.specs.declared.timing.Timing.{Timing}
 use Rattle.mg_clock.specs.declared.timing.Timing.TheVariants.{OnTime, Late}
 use Rattle.mg_words.specs.Limits.{termination_limit}
-use Rattle.mg_ports.specs.declared.call.Call.TheVariants.{Receive, Send, BeginTick, Append, Renew}
+use Rattle.mg_ports.specs.declared.call.Call.TheVariants.{Receive, Send, BeginTick}
 use Rattle.mg_ports.specs.declared.receipt.Receipt.TheVariants.{Nothing}
 use Rattle.mg_host.specs.declared.host_call.HostCall.{HostCall}
 use Rattle.mg_host.specs.declared.host_call.HostCall.TheVariants.{Reported, Poll, OnPorts}
@@ -50,9 +50,7 @@ MayCall k (Poll polled) = Unit {0}
 MayCall k (OnPorts (Receive socket receipt)) = socket ≡ 0 → k.asked ≡ true
 MayCall k (OnPorts (Send socket to bytes)) =
     0 < socket → (k.timing ≡ OnTime) × (IsUnusable to.address → ⊥)
-MayCall k (OnPorts (BeginTick timing)) = Unit {0}
-MayCall k (OnPorts (Append lines durability outcome)) = Unit {0}
-MayCall k (OnPorts (Renew text durability outcome)) = Unit {0}
+MayCall k (OnPorts call) = Unit {0}
 MayCall k (NotReported socket) =
     (slice_index_or k.ready socket true ≡ false) × (socket ≡ 0 → k.asked ≡ true)
 MayCall k (NotSent socket to bytes causes.Late) = (0 < socket) × (k.timing ≡ Late)

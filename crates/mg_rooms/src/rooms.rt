@@ -252,8 +252,8 @@ impl Rooms {
     ///
     /// The termination becomes the last member of its context. If the context doesn't exist, it is created in this
     /// room. Returns false, and changes nothing, in these cases: the record or the room is not within the limits;
-    /// another termination holds the number, the slot or the seat; the context is full or in another room; another
-    /// context holds the room. The numbers must be below the next ones ([`Rooms::skip_to`]).
+    /// a number isn't below the next one of its kind ([`Rooms::skip_to`]); another termination holds the number, the slot
+    /// or the seat; the context is full or in another room; another context holds the room.
     pub fn restore(&mut self, termination: &Record, room: u8) -> bool
         ensures value { result ≡ may_restore self.old termination.now room }
         ensures outcome { self.new ≡ (if result then restored self.old termination.now room else self.old) }

@@ -10,7 +10,7 @@ use Rattle.mg_journal.specs.Text.{EndsInLineFeed}
 use Rattle.mg_journal.proofs.TextLemmas.{ends_line}
 use Rattle.mg_ports.specs.declared.call.Call.{Call}
 use Rattle.mg_ports.specs.declared.call.Call.TheVariants.{Append}
-use Rattle.mg_ports.specs.Calls.{Logged}
+use Rattle.mg_ports.specs.Calls.{Grows}
 use Rattle.mg_ports.specs.Journaled.{PortsSeen, AppendsDated, JournalAfter}
 use Rattle.mg_words.specs.declared.peer.Peer.{Peer}
 use Rattle.mg_core.specs.declared.event.Event.TheVariants as events
@@ -46,7 +46,7 @@ message_feed source bytes = last_feed (codes "control ") (peer_text source) (cod
 
 -- ## One append
 
-appends_one : (before after : PortsSeen) (call : Call) → Logged before.calls after.calls (call ∷ []) →
+appends_one : (before after : PortsSeen) (call : Call) → Grows before.calls after.calls (call ∷ []) →
     JournalAfter (call ∷ []) before.journal after.journal → LogsCalls before after (call ∷ [])
 appends_one before after call logged journaled = record { logged = logged; journaled = journaled }
 
@@ -62,7 +62,7 @@ ticks_done (Some durable) lacking has some small = (Lacks 0, inl (some, small, r
 
 pub ticks_fail : (fault : AppendFault) (before after : PortsSeen) (j k : JournalView) →
     IsSome j.durability → 0 < j.lacking → j.lacking < 2 ^ 64 → k ≡ record j { untried = 0 } →
-    Logged before.calls after.calls (Append (ticks_line j.lacking) Written (Err fault) ∷ []) →
+    Grows before.calls after.calls (Append (ticks_line j.lacking) Written (Err fault) ∷ []) →
     AppendsDated (ticks_line j.lacking) Written before.journal after.journal (Err fault) →
     AppendsTicks (Err fault) before after j k
 ticks_fail fault before after j k has some small is logged dated =
@@ -76,7 +76,7 @@ ticks_fail fault before after j k has some small is logged dated =
 
 pub ticks_work : (before after : PortsSeen) (j k : JournalView) → IsSome j.durability → 0 < j.lacking →
     j.lacking < 2 ^ 64 → k ≡ record j { lacking = 0; untried = 0 } →
-    Logged before.calls after.calls (Append (ticks_line j.lacking) Written (Ok tt) ∷ []) →
+    Grows before.calls after.calls (Append (ticks_line j.lacking) Written (Ok tt) ∷ []) →
     AppendsDated (ticks_line j.lacking) Written before.journal after.journal (Ok tt) →
     AppendsTicks (Ok tt) before after j k
 ticks_work before after j k has some small is logged dated =
@@ -191,7 +191,7 @@ pub announces : (result : Result (Unit {0}) AppendFault) (durable : Durability) 
     (a b c : PortsSeen) (j k m : JournalView) → AppendsBefore [] (Ok tt) a b j k → j.durability ≡ Some durable →
     k.lacking ≡ 0 → m ≡ record k { untried = 0 } → IsDatagram source bytes →
     is_oversized (events.Control source bytes) ≡ false →
-    Logged b.calls c.calls (Append (event_line (events.Control source bytes)) durable result ∷ []) →
+    Grows b.calls c.calls (Append (event_line (events.Control source bytes)) durable result ∷ []) →
     AppendsDated (event_line (events.Control source bytes)) durable b.journal c.journal result →
     AppendsBefore (Happened (events.Control source bytes) ∷ []) result a c j m
 announces (Ok done) durable source bytes a b c j k m h is none at fits short logged dated =

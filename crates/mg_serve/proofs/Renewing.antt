@@ -6,7 +6,7 @@ use Rattle.mg_journal.specs.Text.{EndsInLineFeed}
 use Rattle.mg_journal.proofs.TextLemmas.{ends_line}
 use Rattle.mg_ports.specs.declared.call.Call.{Call}
 use Rattle.mg_ports.specs.declared.call.Call.TheVariants.{Renew}
-use Rattle.mg_ports.specs.Calls.{Logged}
+use Rattle.mg_ports.specs.Calls.{Grows}
 use Rattle.mg_ports.specs.Journaled.{PortsSeen, RenewsDated}
 use Rattle.mg_checkpoint.specs.Checkpoint.{checkpoint_text}
 use Rattle.mg_core.specs.World.{World}
@@ -45,7 +45,7 @@ says_apart head checkpoint reached =
 -- ## One renewal
 
 pub renewal_failed : (fault : AppendFault) (text : List ℕ) (durable : Durability) (before after : PortsSeen) (j : JournalView) →
-    j.durability ≡ Some durable → j.untried ≡ 0 → Logged before.calls after.calls (Renew text durable (Err fault) ∷ []) →
+    j.durability ≡ Some durable → j.untried ≡ 0 → Grows before.calls after.calls (Renew text durable (Err fault) ∷ []) →
     RenewsDated text durable before.journal after.journal (Err fault) → Renewed text before after j j
 renewal_failed fault text durable before after j is tried logged dated =
     let renewal = Called (Renew text durable (Err fault)) ∷ [] in
@@ -62,7 +62,7 @@ renewal_failed fault text durable before after j is tried logged dated =
 
 pub renewal_worked : (text : List ℕ) (durable : Durability) (before after : PortsSeen) (j k : JournalView) →
     j.durability ≡ Some durable → j.untried ≡ 0 → k ≡ record j { lacking = 0 } →
-    Logged before.calls after.calls (Renew text durable (Ok tt) ∷ []) →
+    Grows before.calls after.calls (Renew text durable (Ok tt) ∷ []) →
     RenewsDated text durable before.journal after.journal (Ok tt) → Renewed text before after j k
 renewal_worked text durable before after j k is tried at logged dated =
     let renewal = Called (Renew text durable (Ok tt)) ∷ [] in
@@ -84,7 +84,7 @@ due_none setup w before after j same kept = record {
   renewal = [];
   may = inl refl;
   logs = record {
-    logged = subst (λ (o : Option (List Call)). Logged before.calls o []) (sym same) (told_none before.calls);
+    logged = subst (λ (o : Option (List Call)). Grows before.calls o []) (sym same) (told_none before.calls);
     journaled = kept;
   };
   durability = refl;

@@ -20,7 +20,7 @@ use Rattle.mg_core.specs.Step.{Sent, Packet, Step}
 use Rattle.mg_words.specs.Leads.{Leads}
 use Rattle.mg_ports.specs.declared.call.Call.{Call}
 use Rattle.mg_ports.specs.declared.call.Call.TheVariants.{Receive, BeginTick}
-use Rattle.mg_ports.specs.Calls.{Logged}
+use Rattle.mg_ports.specs.Calls.{Grows}
 use Rattle.mg_ports.specs.Journaled.{PortsSeen}
 use Rattle.mg_journal.specs.declared.append_fault.AppendFault.{AppendFault}
 use Rattle.mg_ports.specs.declared.receipt.Receipt.TheVariants.{Delivered, Nothing, Failed}
@@ -234,9 +234,9 @@ pub tick_sent : (setup : Setup) (timing : Timing) (old new : CoreState) (outbox 
     (before begun sent ticked after : PortsSeen) (x y : Option (List ℕ)) (a b : PrinterView) (j m k : JournalView) →
     ((w : World) → StandsFor old w → outbox ≡ packets_of w) →
     ((w : World) → StandsFor old w → StandsFor new (world_after_tick w)) →
-    Logged before.calls begun.calls (BeginTick timing ∷ []) → begun.journal ≡ before.journal →
+    Grows before.calls begun.calls (BeginTick timing ∷ []) → begun.journal ≡ before.journal →
     Prints a b x y (Happened events.Tick ∷ []) →
-    Logged begun.calls sent.calls (map (λ (packet : Datagram). send_of setup (Packet packet)) outbox) →
+    Grows begun.calls sent.calls (map (λ (packet : Datagram). send_of setup (Packet packet)) outbox) →
     sent.journal ≡ begun.journal → EndsTick sent ticked j m →
     ((w : World) → StandsFor new w → RenewsIfDue setup w ticked after m k) →
     LeadsByTrace old new (outside before x a j) (outside after y b k) (Performs setup (Tick timing))

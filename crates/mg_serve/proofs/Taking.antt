@@ -9,7 +9,7 @@ use Rattle.mg_core.specs.declared.event.Event.{Event}
 use Rattle.mg_core.specs.declared.state.CoreState.{CoreState}
 use Rattle.mg_core.specs.World.{World}
 use Rattle.mg_ports.specs.declared.call.Call.{Call}
-use Rattle.mg_ports.specs.Calls.{Logged}
+use Rattle.mg_ports.specs.Calls.{Grows}
 use Rattle.mg_ports.specs.Journaled.{PortsSeen, JournalAfter}
 use Rattle.mg_journal.specs.declared.append_fault.AppendFault.{AppendFault}
 use Rattle.mg_journal.specs.declared.durability.Durability.{Durability}
@@ -28,13 +28,13 @@ use Rattle.mg_serve.proofs.JournalLemmas.{IsIdle, after_both, after_quiet, calls
 use Rattle.mg_serve.proofs.AppendLemmas.{appended_as, failed_as}
 use Rattle.mg_serve.proofs.Printing.{calls_both, prints_both, prints_nothing}
 
-pub told_both : (a b c : Option (List Call)) (x y : List Call) → Logged a b x → Logged b c y → Logged a c (x ++ y)
+pub told_both : (a b c : Option (List Call)) (x y : List Call) → Grows a b x → Grows b c y → Grows a c (x ++ y)
 told_both a b None x y h k = tt
 told_both a None (Some c) x y h k = absurd k
 told_both None (Some b) (Some c) x y h k = absurd h
 told_both (Some a) (Some b) (Some c) x y h k = k ∙ ap (λ (l : List Call). l ++ y) h ∙ append_assoc a x y
 
-pub told_none : (a : Option (List Call)) → Logged a a []
+pub told_none : (a : Option (List Call)) → Grows a a []
 told_none None = tt
 told_none (Some a) = sym (append-nil a)
 
@@ -42,7 +42,7 @@ told_none (Some a) = sym (append-nil a)
 
 pub tells_both : (a b c : Outside) (p q : List TraceEntry) → LogsTrace a b p → LogsTrace b c q → LogsTrace a c (p ++ q)
 tells_both a b c p q h k = record {
-  logged = subst (λ (l : List Call). Logged a.ports.calls c.ports.calls l) (sym (calls_both p q))
+  logged = subst (λ (l : List Call). Grows a.ports.calls c.ports.calls l) (sym (calls_both p q))
       (told_both a.ports.calls b.ports.calls c.ports.calls (calls_of p) (calls_of q) h.logged k.logged);
   journaled = subst (λ (l : List Call). JournalAfter l a.ports.journal c.ports.journal) (sym (calls_both p q))
       (after_both (calls_of p) (calls_of q) a.ports.journal b.ports.journal c.ports.journal h.journaled k.journaled);
@@ -72,7 +72,7 @@ pub tells_print_then : (seen : PortsSeen) (x y : Option (List ℕ)) (a b : Print
     IsJournaled j.durability j.lacking (did ∷ []) k.lacking → IsTried j.durability j.untried (did ∷ []) k.untried →
     IsFenced j.fencing (did ∷ []) k.fencing → LogsTrace (outside seen x a j) (outside seen y b k) (did ∷ [])
 tells_print_then seen x y a b j k did none h same lacks tries fenced = record {
-  logged = subst (λ (l : List Call). Logged seen.calls seen.calls l) (sym none) (told_none seen.calls);
+  logged = subst (λ (l : List Call). Grows seen.calls seen.calls l) (sym none) (told_none seen.calls);
   journaled = subst (λ (l : List Call). JournalAfter l seen.journal seen.journal) (sym none) refl;
   prints = h;
   durability = same;
@@ -103,10 +103,10 @@ output_of-called Plain (call ∷ calls) = output_of-called Plain calls
 output_of-called Recording (call ∷ calls) = output_of-called Recording calls
 
 pub tells_called : (x : Option (List ℕ)) (a : PrinterView) (j : JournalView) (b c : PortsSeen) (calls : List Call) →
-    Logged b.calls c.calls calls → list_any is_append calls ≡ false → c.journal ≡ b.journal →
+    Grows b.calls c.calls calls → list_any is_append calls ≡ false → c.journal ≡ b.journal →
     LogsTrace (outside b x a j) (outside c x a j) (called calls)
 tells_called x a j b c calls logged quiet same = record {
-  logged = subst (λ (l : List Call). Logged b.calls c.calls l) (sym (calls_of-called calls)) logged;
+  logged = subst (λ (l : List Call). Grows b.calls c.calls l) (sym (calls_of-called calls)) logged;
   journaled = subst (λ (l : List Call). JournalAfter l b.journal c.journal) (sym (calls_of-called calls))
       (after_quiet calls b.journal c.journal quiet same);
   prints = prints_nothing a x (called calls) (output_of-called a.form calls);
@@ -142,7 +142,7 @@ tells_announced event seen later x y a b j k fencing h printed fenced =
     calls_both h.trace (Happened event ∷ []) ∙ append-nil (calls_of h.trace) in
     let appends = appended_as event h.trace h.are in
     record {
-      logged = subst (λ (l : List Call). Logged seen.calls later.calls l) (sym calls) h.logs.logged;
+      logged = subst (λ (l : List Call). Grows seen.calls later.calls l) (sym calls) h.logs.logged;
       journaled = subst (λ (l : List Call). JournalAfter l seen.journal later.journal) (sym calls) h.logs.journaled;
       prints = prints_both a a b x x y h.trace (Happened event ∷ [])
           (prints_nothing a x h.trace (may_print a.form event false h.trace appends)) printed;

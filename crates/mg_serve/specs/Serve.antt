@@ -13,7 +13,7 @@ use Rattle.mg_core.specs.declared.fault.RunFault.TheVariants as faults
 use Rattle.mg_core.specs.World.{World, counts_of}
 use Rattle.mg_lines.specs.Lines.{lines_of}
 use Rattle.mg_lines.specs.Streams.{WritesFront}
-use Rattle.mg_ports.specs.Calls.{Logged}
+use Rattle.mg_ports.specs.Calls.{Grows}
 use Rattle.mg_ports.specs.Journaled.{PortsSeen, JournalAfter}
 use Rattle.mg_serve.specs.Fenced.{IsFenced}
 use Rattle.mg_serve.specs.declared.fencing.Fencing.{Fencing}
@@ -119,7 +119,7 @@ pub record Served (setup : Setup) (w : World) (title : Option (List ℕ))
   pub opens : Opens title result first
   pub gave : Gave commands
   pub session : Session setup commands w trace last
-  pub logs : Logged old.calls new.calls (calls_of trace)
+  pub logs : Grows old.calls new.calls (calls_of trace)
   pub lacks : IsJournaled setup.journal 0 trace lacking
   pub untried : ℕ
   pub tries : IsSome setup.journal → Tries 0 trace untried

@@ -6,7 +6,7 @@ ghost use Rattle.mg_core.specs.declared.event.Event.TheVariants as events;
 ghost use Rattle.mg_core.specs.Recording.{IsDatagram};
 ghost use Rattle.mg_journal.specs.Text.{EndsInLineFeed};
 ghost use Rattle.mg_ports.specs.declared.call.Call.TheVariants.{Append};
-ghost use Rattle.mg_ports.specs.Calls.{Logged};
+ghost use Rattle.mg_ports.specs.Calls.{Grows};
 ghost use Rattle.mg_ports.specs.Journaled.{AppendsDated, ports_seen};
 ghost use Rattle.mg_serve.specs.Fenced.{after_message};
 ghost use Rattle.mg_serve.specs.Trace.{Happened};
@@ -64,7 +64,7 @@ fn append<P: Ports>(
     failed: &mut u64,
 ) -> Result<(), AppendFault>
     requires line_feed { EndsInLineFeed lines.now }
-    ensures logged { Logged (P.calls ports.old) (P.calls ports.new) (Append lines.now durability result ∷ []) }
+    ensures logged { Grows (P.calls ports.old) (P.calls ports.new) (Append lines.now durability result ∷ []) }
     ensures journal { AppendsDated lines.now durability (P.journal ports.old) (P.journal ports.new) result }
 {
     let result = ports.append(lines, durability);
@@ -76,7 +76,7 @@ fn append<P: Ports>(
 
 /// Appends the line for ticks.
 fn append_line<P: Ports>(ports: &mut P, ticks: u64, failed: &mut u64) -> Result<(), AppendFault>
-    ensures logged { Logged (P.calls ports.old) (P.calls ports.new)
+    ensures logged { Grows (P.calls ports.old) (P.calls ports.new)
         (Append (ticks_line ticks) Durability.Written result ∷ []) }
     ensures journal { AppendsDated (ticks_line ticks) Durability.Written (P.journal ports.old) (P.journal ports.new)
         result }

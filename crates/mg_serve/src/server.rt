@@ -6,7 +6,7 @@ ghost use Rattle.mg_core.specs.World.{World, counts_of};
 ghost use Rattle.mg_core.specs.aids.Stands.{StandsFor};
 ghost use Rattle.mg_words.specs.Leads.{Leads};
 ghost use Rattle.mg_ports.specs.declared.call.Call.TheVariants.{Send};
-ghost use Rattle.mg_ports.specs.Calls.{Logged};
+ghost use Rattle.mg_ports.specs.Calls.{Grows};
 ghost use Rattle.mg_ports.specs.Journaled.{ports_seen};
 ghost use Rattle.mg_serve.specs.Lines.{is_quit};
 ghost use Rattle.mg_core.specs.Peer.{peer};
@@ -64,7 +64,7 @@ pub struct Server<'a, M: Monitor> {
 
 /// Sends a datagram, and counts it if the send succeeds.
 fn send<P: Ports>(ports: &mut P, socket: usize, to: Peer, bytes: &[u8], sent: &mut u64)
-    ensures logged { Logged (P.calls ports.old) (P.calls ports.new) (Send socket to bytes.now ∷ []) }
+    ensures logged { Grows (P.calls ports.old) (P.calls ports.new) (Send socket to bytes.now ∷ []) }
     ensures journal { P.journal ports.new ≡ P.journal ports.old }
 {
     if ports.send(socket, to, bytes).is_ok() {
@@ -84,7 +84,7 @@ fn socket_of(setup: &Setup<'_>, packet: &Datagram) -> usize
 /// Sends packets in order. If a send fails, only that packet is lost.
 fn send_packets<P: Ports>(ports: &mut P, setup: &Setup<'_>, packets: &[Datagram], sent: &mut u64)
     requires sound { IsValidConfig setup.now.config }
-    ensures logged { Logged (P.calls ports.old) (P.calls ports.new)
+    ensures logged { Grows (P.calls ports.old) (P.calls ports.new)
         (map (λ packet. send_of setup.now (Packet packet)) packets.now) }
     ensures journal { P.journal ports.new ≡ P.journal ports.old }
 {

@@ -195,8 +195,8 @@ fn is_joined(sums: &Sums, room: Room, row: Row) -> bool
     }
 }
 
-/// Returns whether at most the base and one row in `minus` are left out, each of these rows is joined to the room, and
-/// the two differ.
+/// Returns whether a sum of this room can leave out the base and the rows in `minus`. These are at most two different
+/// rows, at most one of them in `minus`, and each is joined to the room.
 fn can_mix(sums: &Sums, room: Room, base: Option<Row>, minus: &[Row]) -> bool
     ensures { IsTrue result → AreOfRoom sums.now.rooms room (left_out_by base minus.now) }
 {

@@ -44,7 +44,7 @@ name_limit = 64
 abbrev pub sender_limit : ℕ
 sender_limit = 72
 
--- The maximum number of alternatives in a session description.
+-- The maximum number of alternative descriptions in a descriptor Local or Remote.
 abbrev pub alternative_limit : ℕ
 alternative_limit = 8
 

@@ -40,7 +40,7 @@ pub const TERM_LIMIT: usize = 64;
 /// The maximum length of a sender's name, in bytes: a domain name in angle brackets, a colon and a five-digit port.
 pub const SENDER_LIMIT: usize = 72;
 
-/// The maximum number of alternatives in a session description.
+/// The maximum number of alternative descriptions in a descriptor Local or Remote.
 pub const ALTERNATIVE_LIMIT: usize = 8;
 
 /// The maximum size of a reply, in bytes.

@@ -13,6 +13,10 @@ use Rattle.mg_engine.specs.Triples.{matched}
 use Rattle.mg_words.specs.declared.association.Association.TheVariants.{Isolate}
 use Rattle.mg_engine.specs.declared.triple_term.TripleTerm.TheVariants.{Barred}
 
+-- An upper limit for the number of triples in an edit. A control datagram that is read cannot hold more.
+abbrev pub triple_limit : ℕ
+triple_limit = 1200
+
 -- The context exists and has this room.
 abbrev pub IsRoomOf : Registry → ℕ → ℕ → Type 0
 IsRoomOf w c room = option_map (λ x. x.room) (context_at w c) ≡ Some room

@@ -9,7 +9,7 @@ use Rattle.mg_core.specs.Recording.{event_line}
 use Rattle.mg_core.specs.World.{World}
 use Rattle.mg_ports.specs.declared.call.Call.{Call}
 use Rattle.mg_ports.specs.declared.call.Call.TheVariants.{Append, Renew}
-use Rattle.mg_ports.specs.Calls.{Logged}
+use Rattle.mg_ports.specs.Calls.{Grows}
 use Rattle.mg_ports.specs.Journaled.{PortsSeen, JournalAfter}
 use Rattle.mg_serve.specs.Journaled.{IsJournaled}
 use Rattle.mg_serve.specs.aids.Tried.{IsTried}
@@ -32,7 +32,7 @@ with_tick view = record view {
 
 -- The effects of some calls, as seen by the ports.
 pub record LogsCalls (old new : PortsSeen) (calls : List Call) : Type 0 where
-  pub logged : Logged old.calls new.calls calls
+  pub logged : Grows old.calls new.calls calls
   pub journaled : JournalAfter calls old.journal new.journal
 
 -- One append of the ticks that the journal lacked.

@@ -4,7 +4,7 @@ use Rattle.mg_core.specs.declared.state.CoreState.{CoreState}
 use Rattle.mg_core.specs.World.{World}
 use Rattle.mg_core.specs.aids.Stands.{StandsFor}
 use Rattle.mg_journal.specs.declared.durability.Durability.{Durability}
-use Rattle.mg_ports.specs.Calls.{Logged}
+use Rattle.mg_ports.specs.Calls.{Grows}
 use Rattle.mg_ports.specs.Journaled.{PortsSeen, JournalAfter}
 use Rattle.mg_serve.specs.Fenced.{IsFenced}
 use Rattle.mg_serve.specs.declared.fencing.Fencing.{Fencing}
@@ -40,7 +40,7 @@ outside ports written printer journal =
 
 -- The effects of a trace, as seen from outside.
 pub record LogsTrace (old new : Outside) (trace : List TraceEntry) : Type 0 where
-  pub logged : Logged old.ports.calls new.ports.calls (calls_of trace)
+  pub logged : Grows old.ports.calls new.ports.calls (calls_of trace)
   pub journaled : JournalAfter (calls_of trace) old.ports.journal new.ports.journal
   pub prints : Prints old.printer new.printer old.written new.written trace
   pub durability : new.journal.durability ≡ old.journal.durability

@@ -10,7 +10,7 @@ use Rattle.mg_text.specs.MessageReading.{MessageReading, IsMessageReading}
 use Rattle.mg_text.specs.MessageReading as readings
 use Rattle.mg_words.specs.declared.error_number.ErrorNumber.{ErrorNumber}
 use Rattle.mg_words.specs.declared.error_number.ErrorNumber.TheVariants as numbers
-use Rattle.mg_reply.specs.Bytes.{Written, appended}
+use Rattle.mg_bytes.specs.Bytes.{Written, appended}
 use Rattle.mg_core.specs.declared.parsed.Parsed.{Parsed}
 use Rattle.mg_core.specs.declared.parsed.Parsed.TheVariants.{Message, Refused}
 use Rattle.mg_core.specs.Answer.{answered, refused}

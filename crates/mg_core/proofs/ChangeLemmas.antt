@@ -8,8 +8,8 @@ use Rattle.mg_words.specs.declared.mode.Mode.{Mode}
 use Rattle.mg_words.specs.declared.mode.Mode.TheVariants.{Inactive, SendOnly, ReceiveOnly}
 use Rattle.mg_words.specs.declared.mode.Mode.TheVariants.{SendReceive, Loopback}
 use Rattle.mg_words.specs.Mode.{mode_text}
-use Rattle.mg_reply.specs.Bytes.{Written, appended}
-use Rattle.mg_reply.proofs.WrittenLemmas.{after, appended-appended}
+use Rattle.mg_bytes.specs.Bytes.{Written, appended}
+use Rattle.mg_bytes.proofs.AppendedLemmas.{after, appended-appended}
 use Rattle.mg_core.specs.Flows.{Listener, listener_at}
 
 pub decimal_short : (n : ℕ) → n < 2 ^ 64 → length (decimal n) ≤ 20

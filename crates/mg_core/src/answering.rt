@@ -3,7 +3,7 @@ ghost use Rattle.mg_commands.specs.Transaction.{replied};
 ghost use Rattle.mg_commands.specs.Work.{edits_reported};
 ghost use Rattle.mg_engine.specs.Work.{RisesAtMost};
 ghost use Rattle.mg_kept.specs.KeptReplies.{kept_text};
-ghost use Rattle.mg_reply.specs.Bytes.{appended};
+ghost use Rattle.mg_bytes.specs.Bytes.{appended};
 ghost use Rattle.mg_words.specs.ErrorNumber.{error_text};
 ghost use Rattle.mg_reply.specs.aids.Whole.{IsWhole};
 ghost use Rattle.mg_reply.specs.Written.{head_text};
@@ -16,10 +16,11 @@ ghost use Rattle.mg_core.specs.Work.{edits_by_item, edits_by_items};
 ghost use Rattle.mg_core.specs.aids.Steps.{TextGrows, put_text, refusal_of};
 
 use crate::state::CoreState;
+use mg_bytes::Bytes;
 use mg_commands::{Kept, transaction};
 use mg_engine::Config;
 use mg_reply::theorems::too_long_by_text;
-use mg_reply::{Bytes, HEAD_LIMIT, Item, Reply, write_error, write_head, write_reply};
+use mg_reply::{HEAD_LIMIT, Item, Reply, write_error, write_head, write_reply};
 use mg_text::{
     Body, ERROR_LIMIT, ErrorNumber, MessageItem, REPLY_LIMIT, Range, ReadFault, Request,
 };

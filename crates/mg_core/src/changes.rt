@@ -1,12 +1,12 @@
 //! The comment lines that report changes to terminations and to who hears whom.
 
 ghost use Rattle.std.specs.Prelude.{◌≡◌, ◌≤◌, ◌+◌, ◌*◌, ◌++◌, length, codes, decimal, flat_map, MatchOption, None, Some};
-ghost use Rattle.mg_reply.specs.Bytes.{appended};
+ghost use Rattle.mg_bytes.specs.Bytes.{appended};
 ghost use Rattle.mg_core.specs.Flows.{changes, ended_line, hearing, in_mode, is_same_mode, line_head, listener_at, made_line, moved_line, name_in_line, names_in_line, lines_of_new, lines_of_old};
 
 use crate::listener::KeptListener;
 use itoa::Buffer;
-use mg_reply::Bytes;
+use mg_bytes::Bytes;
 use mg_words::{MEMBERS, Mode};
 
 /// The maximum length, in bytes, of a number in decimal.

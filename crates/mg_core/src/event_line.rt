@@ -1,13 +1,13 @@
 ghost use Rattle.std.specs.Prelude.{◌≡◌, ◌≤◌, ◌+◌, ◌*◌, length, IfOk, []};
 ghost use Rattle.hex.specs.Hex.{encode_lower};
-ghost use Rattle.mg_reply.specs.Bytes.{appended};
+ghost use Rattle.mg_bytes.specs.Bytes.{appended};
 ghost use Rattle.mg_core.specs.declared.event.Event.TheVariants as events;
 ghost use Rattle.mg_core.specs.Recording.{datagram_text, event_line};
 
 use crate::output::{PEER_LIMIT, push_peer};
 use crate::script::DATAGRAM_LIMIT;
+use mg_bytes::{Bytes, PORT_LIMIT, write_port};
 use mg_engine::Peer;
-use mg_reply::{Bytes, PORT_LIMIT, write_port};
 use std::alloc::{AllocError, Global};
 use std::marker::Model;
 

@@ -15,9 +15,9 @@ use crate::output::{LINE_START, push_answer, push_packets};
 use crate::script::{ParseFault, event_of};
 use crate::shown::Shown;
 use crate::watched::Watched;
+use mg_bytes::Bytes;
 use mg_engine::Peer;
 use mg_lines::write_whole;
-use mg_reply::Bytes;
 use std::alloc::{AllocError, Global};
 use std::io::Write;
 

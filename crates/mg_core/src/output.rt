@@ -1,13 +1,13 @@
 ghost use Rattle.std.specs.Prelude.{◌≡◌, ◌+◌, ◌*◌, ◌≤◌, length, map};
-ghost use Rattle.mg_reply.specs.Bytes.{appended};
+ghost use Rattle.mg_bytes.specs.Bytes.{appended};
 ghost use Rattle.mg_core.specs.Script.{escaped, escape_of};
 ghost use Rattle.hex.specs.Hex.{encode_lower};
 ghost use Rattle.mg_core.specs.Peer.{peer_text};
 ghost use Rattle.mg_core.specs.Run.{answer_line, packet_line, lines_for};
 ghost use Rattle.mg_core.specs.Step.{Packet};
 
+use mg_bytes::{Bytes, PORT_LIMIT, write_address, write_port};
 use mg_engine::{Datagram, Peer};
-use mg_reply::{Bytes, PORT_LIMIT, write_address, write_port};
 use mg_rtp::PACKET_LEN;
 use mg_words::ADDRESS_LIMIT;
 

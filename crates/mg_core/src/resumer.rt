@@ -15,8 +15,8 @@ use crate::script_runner::PARTIAL_LIMIT;
 use crate::stopped::Stopped;
 use crate::watcher::Watcher;
 use memchr::memchr;
+use mg_bytes::Bytes;
 use mg_lines::{READ_SIZE, read_some, without_return};
-use mg_reply::Bytes;
 use std::alloc::{AllocError, Global};
 use std::io::Read;
 

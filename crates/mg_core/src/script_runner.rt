@@ -12,8 +12,8 @@ use crate::line_runner::LineRunner;
 use crate::machine::Core;
 use crate::script::LINE_LIMIT;
 use crate::shown::Shown;
+use mg_bytes::Bytes;
 use mg_lines::{READ_SIZE, read_some, without_return};
-use mg_reply::Bytes;
 use std::alloc::{AllocError, Global};
 use std::io::{Read, Write};
 

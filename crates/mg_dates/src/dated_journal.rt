@@ -8,10 +8,10 @@ ghost use Rattle.mg_ports.specs.Journaled.{AppendsDated, RenewsDated};
 
 use crate::date::Date;
 use crate::date_text::{DateText, TEXT_LIMIT};
+use mg_bytes::Bytes;
 use mg_chain::{END, FOLLOWS, MARK};
 use mg_core::count_of;
 use mg_journal::{AppendFault, Durability, Journal};
-use mg_reply::Bytes;
 use std::alloc::{AllocError, Global};
 use std::marker::Model;
 use std::time::Clock;

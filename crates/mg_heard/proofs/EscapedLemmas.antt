@@ -2,8 +2,8 @@
 use Rattle.std.proofs.Common.{◌≡◌, ℕ, ◌+◌, ◌*◌, ◌<◌, ◌≤◌, Bool, true, false, cond, List, [], ◌∷◌, ◌++◌, length, get_or, take, sym, ap, ◌∙◌, append_assoc, length-append, arith, codes, lit≤, ◌==◌, ◌||◌, nat_lt}
 use Rattle.std.proofs.lemmas.List.Concat.{flat_map-append}
 use Rattle.std.proofs.lemmas.List.{take_more, append-nil}
-use Rattle.mg_reply.specs.Bytes.{Written, appended}
-use Rattle.mg_reply.proofs.WrittenLemmas.{appended-appended}
+use Rattle.mg_bytes.specs.Bytes.{Written, appended}
+use Rattle.mg_bytes.proofs.AppendedLemmas.{appended-appended}
 use Rattle.mg_heard.specs.Escaped.{escaped_byte, escaped}
 
 -- Writing one more escaped byte extends the written text by that byte.

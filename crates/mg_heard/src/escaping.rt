@@ -1,8 +1,8 @@
 ghost use Rattle.std.specs.Prelude.{◌≡◌, ◌*◌, ◌≤◌, length};
-ghost use Rattle.mg_reply.specs.Bytes.{appended};
+ghost use Rattle.mg_bytes.specs.Bytes.{appended};
 ghost use Rattle.mg_heard.specs.Escaped.{escaped, escaped_byte};
 
-use mg_reply::Bytes;
+use mg_bytes::Bytes;
 
 /// The maximum length, in bytes, of an escaped byte.
 pub(crate) const ESCAPE_LIMIT: usize = 8;

@@ -3,7 +3,7 @@
 ghost use Rattle.std.specs.Prelude.{◌≡◌, ◌≤◌, ◌+◌, ◌*◌, ◌++◌, codes, decimal, length, None, Some};
 ghost use Rattle.mg_words.specs.Term.{rtp_name};
 ghost use Rattle.mg_core.specs.Peer.{peer_text};
-ghost use Rattle.mg_reply.specs.Bytes.{appended};
+ghost use Rattle.mg_bytes.specs.Bytes.{appended};
 ghost use Rattle.mg_heard.specs.Lines.{answer_line, end_text, extent_text, gap_word, head_of, line_of, moment_text};
 ghost use Rattle.mg_heard.specs.Never.{violation_line};
 ghost use Rattle.mg_heard.specs.aids.Shapes.{at_text, bar_end, bar_of, called_party, called_text, comma_text, date_of_end, extent_cells, extent_columns, extent_members, gap_shape, interval_object, interval_row, interval_shape, name_column, name_columns, name_member, name_members, peer_column, peer_member, sentence_of, shown_party, shown_text, table_row_shape, tick_column, tick_member, time_column, time_member, violation_sentence, violation_shape};
@@ -22,9 +22,9 @@ use crate::open_flow::OpenFlow;
 use crate::style::Style;
 use crate::violation::Violation;
 use itoa::Buffer;
+use mg_bytes::{Bytes, write_address, write_port};
 use mg_core::Peer;
 use mg_dates::Date;
-use mg_reply::{Bytes, write_address, write_port};
 
 /// The maximum length of a line, in bytes.
 pub(crate) const LINE_LIMIT: usize = 1536;

@@ -1,10 +1,10 @@
 ghost use Rattle.std.specs.Prelude.{◌≡◌, ◌≤◌};
-ghost use Rattle.mg_reply.specs.Bytes.{appended};
+ghost use Rattle.mg_bytes.specs.Bytes.{appended};
 ghost use Rattle.mg_heard.specs.Query.{is_named, party_name_of, party_name_text};
 
 use crate::line::{push_name, push_peer};
+use mg_bytes::{Bytes, write_address};
 use mg_core::{Peer, peer_of};
-use mg_reply::{Bytes, write_address};
 use mg_words::{address_of, number_of};
 
 /// A key that selects terminations: a number, an address, or an address with a port.

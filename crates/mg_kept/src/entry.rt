@@ -3,7 +3,7 @@ ghost use Rattle.std.specs.Str.{str_eq_ignore_ascii_case};
 ghost use Rattle.mg_kept.specs.KeptReplies.{is_from, is_reply_to, is_in_range};
 
 use arrayvec::ArrayVec;
-use mg_reply::Bytes;
+use mg_bytes::Bytes;
 use mg_words::{REPLY_LIMIT, SENDER_LIMIT};
 use std::alloc::{AllocError, Global};
 use std::marker::Model;

@@ -5,6 +5,5 @@ pub mod ActionLemmas
 pub mod ReplyLemmas
 pub mod WrittenLemmas
 pub mod BraceLemmas
-pub mod BytesLemmas
 pub mod PrefixLemmas
 pub mod WideLemmas

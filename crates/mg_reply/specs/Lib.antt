@@ -1,4 +1,3 @@
-pub mod Bytes
 pub mod Reply
 pub mod Listed
 pub mod Media

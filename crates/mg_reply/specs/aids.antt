@@ -1,4 +1,3 @@
-pub mod Cut
 pub mod Draft
 pub mod Marks
 pub mod Room

@@ -2,8 +2,8 @@ ghost use Rattle.std.specs.Prelude.{◌≡◌, ◌≤◌, [], length, Some, ℕ,
 ghost use Rattle.mg_words.specs.Limits.{reply_limit};
 ghost use Rattle.mg_reply.specs.aids.Draft.{drafted, closed};
 
-use crate::bytes::Bytes;
 use crate::rtp_name::RtpName;
+use mg_bytes::Bytes;
 use mg_words::REPLY_LIMIT;
 use std::marker::Model;
 use std::mem;
@@ -70,7 +70,7 @@ impl Draft {
         if self.is_full || name.len() > self.left {
             self.is_full = true;
         } else {
-            self.bytes.push_name(name);
+            self.bytes.push_stored(name.padded(), name.len());
             self.left -= name.len();
         }
     }

@@ -1,7 +1,7 @@
 //! Replies in text encoding (Megaco, RFC 3525, Annex B): collected, then written.
 //!
-//! A [`Reply`] collects items. It allocates all its memory in [`Reply::new`], and [`Bytes::new`] allocates the buffer
-//! for its text:
+//! A [`Reply`] collects items. It allocates all its memory in [`Reply::new`]; its text goes to a buffer of the crate
+//! `mg_bytes`:
 //!
 //! ```rust
 //! let mut reply = Reply::new(alloc)?;
@@ -19,7 +19,6 @@
 #![tactic(auto)]
 
 mod action_writing;
-mod bytes;
 mod control;
 mod draft;
 mod entry_kind;
@@ -32,15 +31,11 @@ mod rtp_name;
 pub mod theorems;
 mod writing;
 
-pub use crate::bytes::Bytes;
 pub use crate::control::Control;
 pub use crate::item::Item;
 pub use crate::media::Media;
 pub use crate::outcome::{Outcome, Parts};
 pub use crate::reply::{ITEM_LIMIT, Reply};
 pub use crate::rtp_name::RtpName;
-pub use crate::writing::{
-    HEAD_LIMIT, PORT_LIMIT, TooLong, write_address, write_error, write_head, write_port,
-    write_reply,
-};
+pub use crate::writing::{HEAD_LIMIT, TooLong, write_error, write_head, write_reply};
 pub use mg_words::{Association, CommandWord, ContextId, ErrorNumber, Mode, Stats, Term};

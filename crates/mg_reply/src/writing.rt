@@ -1,50 +1,25 @@
-ghost use Rattle.std.specs.Prelude.{◌≡◌, ◌≤◌, ◌||◌, ◌++◌, nat_lt, length, OnOk, OnErr, is_err, codes, decimal};
-ghost use Rattle.mg_words.specs.Address.{address_text};
+ghost use Rattle.std.specs.Prelude.{◌≡◌, ◌≤◌, ◌||◌, ◌++◌, nat_lt, length, OnOk, OnErr, is_err};
 ghost use Rattle.mg_words.specs.Limits.{reply_limit};
-ghost use Rattle.mg_reply.specs.Bytes.{appended};
+ghost use Rattle.mg_bytes.specs.Bytes.{appended};
 ghost use Rattle.mg_reply.specs.aids.Draft.{drafted};
 ghost use Rattle.mg_words.specs.ErrorNumber.{error_text};
 ghost use Rattle.mg_reply.specs.aids.Whole.{IsWhole};
 ghost use Rattle.mg_reply.specs.Written.{head_text, items_text, reply_text};
 
 use crate::action_writing::put_actions;
-use crate::bytes::Bytes;
 use crate::draft::Draft;
 use crate::item::Item;
 use crate::parts_writing::put_number;
 use crate::reply::Reply;
-use itoa::Buffer;
-use mg_words::{ADDRESS_LIMIT, ERROR_LIMIT, ErrorNumber, address_text};
+use mg_bytes::{Bytes, PORT_LIMIT, write_address, write_port};
+use mg_words::{ADDRESS_LIMIT, ERROR_LIMIT, ErrorNumber};
 
 /// The reply had no room for an item, or its text would exceed 16,000 bytes. Nothing was written.
 #[derive(Clone, Copy, Debug, PartialEq, Eq)]
 pub struct TooLong;
 
-/// The maximum length, in bytes, of a port in decimal.
-pub const PORT_LIMIT: usize = 5;
-
 /// The maximum length of a message head, in bytes: 13 for `MEGACO/1 []:` and a line feed, plus an address and a port.
 pub const HEAD_LIMIT: usize = 13 + ADDRESS_LIMIT + PORT_LIMIT;
-
-/// Writes a port in decimal (at most 5 bytes).
-#[tactic(auto, using(crate::proofs::WrittenLemmas::lengths))]
-pub fn write_port(port: u16, out: &mut Bytes)
-    requires room { PORT_LIMIT ≤ out.old.room }
-    ensures value { out.new ≡ appended out.old (decimal port) }
-    ensures short { length (decimal port) ≤ PORT_LIMIT }
-{
-    let mut buffer = Buffer::new();
-    out.push(buffer.format(port).as_bytes());
-}
-
-/// Writes an IPv4 address in dotted decimal (at most 15 bytes).
-pub fn write_address(address: [u8; 4], out: &mut Bytes)
-    requires room { ADDRESS_LIMIT ≤ out.old.room }
-    ensures value { out.new ≡ appended out.old (address_text address) }
-    ensures short { length (address_text address) ≤ ADDRESS_LIMIT }
-{
-    out.push(address_text(address).as_slice());
-}
 
 /// Writes the head (at most 33 bytes) of a message from the gateway at this address and port.
 #[tactic(auto, using(crate::proofs::WrittenLemmas::lengths))]

@@ -1,15 +1,15 @@
 ghost use Rattle.std.specs.Prelude.{◌≡◌, ◌≤◌, ◌++◌, ◌∷◌, [], false, length, codes, IfOk};
 ghost use Rattle.mg_core.specs.declared.event.Event.TheVariants as events;
-ghost use Rattle.mg_reply.specs.Bytes.{appended};
+ghost use Rattle.mg_bytes.specs.Bytes.{appended};
 ghost use Rattle.std.specs.Option.{option_map};
 ghost use Rattle.mg_serve.specs.Serve.{opening};
 ghost use Rattle.mg_serve.specs.Trace.{Happened, Noted, Printed, one_line};
 ghost use Rattle.mg_serve.specs.aids.Printing.{Prints, Puts};
 
 use crate::form::Form;
+use mg_bytes::Bytes;
 use mg_core::{DATAGRAM_LIMIT, EventLine, Peer};
 use mg_lines::write_whole;
-use mg_reply::Bytes;
 use std::alloc::{AllocError, Global};
 use std::io::Write;
 use std::marker::Model;

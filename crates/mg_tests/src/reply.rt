@@ -3,10 +3,11 @@
 ghost use Rattle.std.specs.Prelude.{◌≤◌};
 
 use crate::equality::assert_equal;
+use mg_bytes::Bytes;
 use mg_g711::Law;
 use mg_reply::{
-    Association, Bytes, CommandWord, ContextId, Control, ErrorNumber, Item, Media, Mode, Outcome,
-    Parts, Reply, RtpName, Stats, Term, TooLong, write_error, write_head, write_reply,
+    Association, CommandWord, ContextId, Control, ErrorNumber, Item, Media, Mode, Outcome, Parts,
+    Reply, RtpName, Stats, Term, TooLong, write_error, write_head, write_reply,
 };
 use mg_sdp::Chosen;
 use std::test::Fail;

@@ -2,7 +2,7 @@
 use Rattle.std.specs.Prelude.{◌≡◌, ℕ, ◌+◌, ◌-◌, ◌≤◌, Bool, true, false, nat_le, List, ◌++◌, length}
 use Rattle.std.specs.Prelude.{Option, Some, None, if◌then◌else◌}
 use Rattle.mg_words.specs.Limits.{reply_limit}
-use Rattle.mg_reply.specs.Bytes.{Written, appended}
+use Rattle.mg_bytes.specs.Bytes.{Written, appended}
 
 -- The text before the reply, the room after that text, and the reply so far, or `None` if the reply is too long.
 pub record Drafted : Type 0 where

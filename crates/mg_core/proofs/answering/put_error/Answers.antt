@@ -1,5 +1,5 @@
 use Rattle.std.proofs.Common.{◌+◌, length, ap, arith}
-use Rattle.mg_reply.specs.Bytes.{Written}
+use Rattle.mg_bytes.specs.Bytes.{Written}
 use Rattle.mg_reply.specs.Written.{head_text}
 use Rattle.mg_words.specs.ErrorNumber.{error_text}
 use Rattle.mg_core.proofs.AnswerLemmas.{appended-total}

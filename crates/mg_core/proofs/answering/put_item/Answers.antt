@@ -2,7 +2,7 @@ use Rattle.std.proofs.Common.{List, refl, ap, ◌∙◌}
 use Rattle.mg_text.specs.declared.body.Range.{Range}
 use Rattle.mg_core.specs.declared.state.CoreState.{CoreState}
 use Rattle.mg_core.specs.Answer.{without_ranges}
-use Rattle.mg_reply.specs.Bytes.{Written}
+use Rattle.mg_bytes.specs.Bytes.{Written}
 use Rattle.mg_core.specs.Work.{edits_by_item}
 use Rattle.mg_core.proofs.ReplyLemmas.{request_put, ranges_taken}
 use Rattle.mg_core.proofs.WorkLemmas.{nothing_paid}

@@ -1,5 +1,5 @@
 use Rattle.std.proofs.Common.{ap, refl}
-use Rattle.mg_reply.specs.Bytes.{Written}
+use Rattle.mg_bytes.specs.Bytes.{Written}
 use Rattle.mg_text.specs.declared.body.MessageItem.TheVariants.{Request}
 use Rattle.mg_core.specs.Work.{edits_by_item}
 use Rattle.mg_core.proofs.ReplyLemmas.{request_again, request_new}

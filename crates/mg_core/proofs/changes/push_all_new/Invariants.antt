@@ -1,5 +1,5 @@
 use Rattle.std.proofs.Common.{◌≡◌, ◌*◌, ◌≤◌, length, take, flat_map}
-use Rattle.mg_reply.specs.Bytes.{appended}
+use Rattle.mg_bytes.specs.Bytes.{appended}
 use Rattle.mg_core.specs.Flows.{lines_of_new, listener_at}
 use Rattle.mg_core.proofs.changes.push_all_new.Given as goal
 

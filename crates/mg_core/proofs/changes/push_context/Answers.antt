@@ -1,5 +1,5 @@
 use Rattle.std.proofs.Common.{codes, decimal}
-use Rattle.mg_reply.proofs.WrittenLemmas.{after}
+use Rattle.mg_bytes.proofs.AppendedLemmas.{after}
 use Rattle.mg_core.proofs.changes.push_context.Goals as goal
 
 pub returns-clause-value : goal.returns-clause-value

@@ -1,5 +1,5 @@
 use Rattle.std.proofs.Common.{◌≡◌, ◌-◌, ◌*◌, ◌≤◌, length, take}
-use Rattle.mg_reply.specs.Bytes.{appended}
+use Rattle.mg_bytes.specs.Bytes.{appended}
 use Rattle.mg_core.specs.Script.{escaped}
 use Rattle.mg_core.proofs.output.push_escaped.Given as goal
 

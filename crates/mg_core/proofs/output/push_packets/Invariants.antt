@@ -1,5 +1,5 @@
 use Rattle.std.proofs.Common.{◌≡◌, ◌*◌, ◌≤◌, length, map, take}
-use Rattle.mg_reply.specs.Bytes.{appended}
+use Rattle.mg_bytes.specs.Bytes.{appended}
 use Rattle.mg_core.specs.Run.{lines_for}
 use Rattle.mg_core.specs.Step.{Packet}
 use Rattle.mg_core.proofs.output.push_packets.Given as goal

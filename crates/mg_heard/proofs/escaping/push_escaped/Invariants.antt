@@ -1,5 +1,5 @@
 use Rattle.std.proofs.Common.{◌≡◌, ◌-◌, ◌*◌, ◌≤◌, length, take}
-use Rattle.mg_reply.specs.Bytes.{appended}
+use Rattle.mg_bytes.specs.Bytes.{appended}
 use Rattle.mg_heard.specs.Escaped.{escaped}
 use Rattle.mg_heard.proofs.escaping.push_escaped.Given as goal
 

@@ -1,5 +1,5 @@
 use Rattle.std.proofs.Common.{◌≤◌, ◌∙◌, List, ap, length, subst, ℕ}
-use Rattle.mg_reply.specs.Bytes.{appended}
+use Rattle.mg_bytes.specs.Bytes.{appended}
 use Rattle.mg_heard.specs.declared.claim.Claim.TheVariants.{CouldHear, Heard}
 use Rattle.mg_heard.specs.declared.line.TheConstants.{LINE_LIMIT}
 use Rattle.mg_heard.proofs.ShapeLemmas.{gap_same, interval_same}

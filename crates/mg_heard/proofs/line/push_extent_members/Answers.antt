@@ -1,6 +1,6 @@
 use Rattle.std.proofs.Common.{ap, ◌∙◌}
-use Rattle.mg_reply.specs.Bytes.{appended}
-use Rattle.mg_reply.proofs.WrittenLemmas.{after}
+use Rattle.mg_bytes.specs.Bytes.{appended}
+use Rattle.mg_bytes.proofs.AppendedLemmas.{after}
 use Rattle.mg_heard.specs.aids.Shapes.{time_member}
 use Rattle.mg_heard.proofs.line.push_extent_members.Goals as goal
 

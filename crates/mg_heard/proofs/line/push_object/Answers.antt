@@ -1,4 +1,4 @@
-use Rattle.mg_reply.proofs.WrittenLemmas.{after}
+use Rattle.mg_bytes.proofs.AppendedLemmas.{after}
 use Rattle.mg_heard.proofs.line.push_object.Goals as goal
 
 pub returns-clause-value : goal.returns-clause-value

@@ -1,4 +1,4 @@
-use Rattle.mg_reply.proofs.WrittenLemmas.{after}
+use Rattle.mg_bytes.proofs.AppendedLemmas.{after}
 use Rattle.mg_heard.proofs.line.push_table_head.Goals as goal
 
 pub returns : goal.returns

@@ -1,5 +1,5 @@
 use Rattle.std.proofs.Common.{◌≤◌, ◌∙◌, [], List, ap, length, subst, ℕ}
-use Rattle.mg_reply.specs.Bytes.{appended}
+use Rattle.mg_bytes.specs.Bytes.{appended}
 use Rattle.mg_heard.specs.declared.claim.Claim.TheVariants.{CouldHear}
 use Rattle.mg_heard.specs.declared.format.Format.TheVariants.{Csv, Json}
 use Rattle.mg_heard.specs.declared.interval.Interval.{Interval}

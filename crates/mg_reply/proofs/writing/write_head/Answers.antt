@@ -1,6 +1,7 @@
 use Rattle.std.proofs.Common.{arith, ◌++◌, codes, decimal}
 use Rattle.mg_words.specs.Address.{address_text}
-use Rattle.mg_reply.proofs.WrittenLemmas.{after, head_short}
+use Rattle.mg_bytes.proofs.AppendedLemmas.{after}
+use Rattle.mg_reply.proofs.WrittenLemmas.{head_short}
 use Rattle.mg_reply.proofs.writing.write_head.Goals as goal
 
 pub returns-clause-value : goal.returns-clause-value

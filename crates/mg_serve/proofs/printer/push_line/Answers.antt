@@ -1,6 +1,6 @@
 use Rattle.std.proofs.Common.{◌∷◌, [], length, get_or, take, ap, sym, ◌∙◌, arith, length-append}
-use Rattle.mg_reply.specs.Bytes.{appended}
-use Rattle.mg_reply.proofs.WrittenLemmas.{appended-appended}
+use Rattle.mg_bytes.specs.Bytes.{appended}
+use Rattle.mg_bytes.proofs.AppendedLemmas.{appended-appended}
 use Rattle.mg_serve.specs.Trace.{one_line}
 use Rattle.mg_serve.proofs.OneLine.{feed, full, plain}
 use Rattle.mg_serve.proofs.printer.push_line.Goals as goal

@@ -1,5 +1,5 @@
 use Rattle.std.proofs.Common.{◌≡◌, ◌+◌, length, take}
-use Rattle.mg_reply.specs.Bytes.{appended}
+use Rattle.mg_bytes.specs.Bytes.{appended}
 use Rattle.mg_serve.specs.Trace.{one_line}
 use Rattle.mg_serve.proofs.printer.push_line.Given as goal
 

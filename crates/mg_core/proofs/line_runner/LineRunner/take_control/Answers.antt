@@ -1,6 +1,6 @@
 use Rattle.std.proofs.Common.{◌++◌, ◌∙◌, Ok, Err, ap, refl}
 use Rattle.std.proofs.lemmas.Result.{err_from_is_err_and}
-use Rattle.mg_reply.specs.Bytes.{Written}
+use Rattle.mg_bytes.specs.Bytes.{Written}
 use Rattle.mg_core.specs.declared.event.Event.TheVariants.{Control}
 use Rattle.mg_core.specs.Run.{answer_line}
 use Rattle.mg_core.proofs.LineLemmas.{silent_steps, answer_steps}

@@ -1,8 +1,7 @@
 ghost use Rattle.std.specs.Prelude.{◌≡◌, ◌+◌, ◌≤◌, ◌++◌, [], length, take, IfOk};
-ghost use Rattle.mg_reply.specs.Bytes.{appended};
-ghost use Rattle.mg_reply.specs.aids.Cut.{cut_to};
+ghost use Rattle.mg_bytes.specs.Bytes.{appended};
+ghost use Rattle.mg_bytes.specs.aids.Cut.{cut_to};
 
-use crate::rtp_name::{NAME_ROOM, RtpName};
 use std::alloc::{AllocError, Global};
 use std::marker::Model;
 
@@ -18,7 +17,7 @@ pub struct Bytes {
 
 impl Model for Bytes {
     ghost use Rattle.std.specs.Prelude.{◌-◌, ◌≤◌, length, take};
-    ghost use Rattle.mg_reply.specs.Bytes.{Written};
+    ghost use Rattle.mg_bytes.specs.Bytes.{Written};
 
     ghost Value = { Written };
 
@@ -27,13 +26,14 @@ impl Model for Bytes {
     ghost invariant = { λ b. b.len ≤ length b.bytes.items };
 }
 
-/// Writes a name into a buffer: all 16 bytes of the name's storage.
-fn write_at(bytes: &mut [u8], at: usize, name: &RtpName)
-    requires fits { at + NAME_ROOM ≤ length bytes.old }
-    ensures value { take (at + length name.now) bytes.new ≡ take at bytes.old ++ name.now }
+/// Writes the whole storage of a text that consists of its first `len` bytes.
+fn write_at<const N: usize>(bytes: &mut [u8], at: usize, storage: &[u8; N], len: usize)
+    requires fits { at + N ≤ length bytes.old }
+    requires within { len ≤ N }
+    ensures value { take (at + len) bytes.new ≡ take at bytes.old ++ take len storage.now }
     ensures len { length bytes.new ≡ length bytes.old }
 {
-    bytes[at..at + NAME_ROOM].copy_from_slice(name.padded());
+    bytes[at..at + N].copy_from_slice(storage);
 }
 
 impl Bytes {
@@ -48,7 +48,7 @@ impl Bytes {
     }
 
     /// Returns a buffer without capacity that uses another buffer's allocator. Does not allocate.
-    pub(crate) fn empty_like(other: &Bytes) -> Self
+    pub fn empty_like(other: &Bytes) -> Self
         ensures value { result ≡ record { text = []; room = 0 } }
     {
         let alloc = *other.bytes.allocator();
@@ -82,18 +82,19 @@ impl Bytes {
         self.len = end;
     }
 
-    /// Appends a name. If there is room, copies all 16 bytes of the name's storage.
-    pub(crate) fn push_name(&mut self, name: &RtpName)
-        requires fits { length name.now ≤ self.old.room }
-        ensures value { self.new ≡ appended self.old name.now }
+    /// Appends the first `len` bytes of a storage. If there is room, copies the whole storage, in one move if it is
+    /// small.
+    pub fn push_stored<const N: usize>(&mut self, storage: &[u8; N], len: usize)
+        requires within { len ≤ N }
+        requires fits { len ≤ self.old.room }
+        ensures value { self.new ≡ appended self.old (take len storage.now) }
     {
-        let end = self.len + NAME_ROOM;
-        if end > self.bytes.len() {
-            self.push(name.as_slice());
+        if N > self.room() {
+            self.push(&storage[..len]);
             return;
         }
-        write_at(&mut self.bytes, self.len, name);
-        self.len += name.len();
+        write_at(&mut self.bytes, self.len, storage, len);
+        self.len += len;
     }
 
     /// Empties the text.
@@ -104,7 +105,7 @@ impl Bytes {
     }
 
     /// Shortens the text to its first `len` bytes.
-    pub(crate) fn truncate(&mut self, len: usize)
+    pub fn truncate(&mut self, len: usize)
         requires within { len ≤ length self.old.text }
         ensures value { self.new ≡ cut_to len self.old }
     {

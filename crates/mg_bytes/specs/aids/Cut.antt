@@ -1,6 +1,6 @@
 -- Shortening text.
 use Rattle.std.specs.Prelude.{ℕ, ◌+◌, ◌-◌, length, take}
-use Rattle.mg_reply.specs.Bytes.{Written}
+use Rattle.mg_bytes.specs.Bytes.{Written}
 
 -- The first `len` bytes of the text.
 abbrev pub cut_to : ℕ → Written → Written

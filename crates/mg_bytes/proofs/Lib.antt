@@ -1,0 +1,2 @@
+pub mod AppendedLemmas
+pub mod StorageLemmas

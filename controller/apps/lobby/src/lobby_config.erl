@@ -118,7 +118,8 @@ kind(tokens) ->
      all(fun is_token/1)};
 kind(roles) ->
     {"a list such as {{user,<<\"ann\">>},<<\"coach\">>}, {{network,{{192,0,2,0},24}},<<\"agent\">>} or "
-     "{header,<<\"x-role\">>,[{{192,0,2,9},32}]} (in lower case)", all(fun is_role/1)};
+     "{header,<<\"x-role\">>,[{{192,0,2,9},32}]} (in lower case, and not one that the controller itself uses)",
+     all(fun is_role/1)};
 kind(networks) -> {"a list of networks such as {{192,0,2,0},24}", all(fun is_network/1)};
 kind(users) ->
     {"a map from names to passwords, all of them non-empty binaries",
@@ -158,7 +159,8 @@ is_address({Address, Port}) -> inet:is_ipv4_address(Address) andalso is({1, 6553
 is_network({Address, Bits}) -> inet:is_ipv4_address(Address) andalso is({0, 32}, Bits).
 
 is_role({header, Name, Proxies}) ->
-    is_text(Name) andalso Name =:= string:lowercase(Name) andalso Proxies =/= [] andalso is(networks, Proxies);
+    is_text(Name) andalso Name =:= string:lowercase(Name) andalso not lobby_sip_decoder:reads(Name)
+        andalso Proxies =/= [] andalso is(networks, Proxies);
 is_role({Who, Role}) ->
     is_text(Role) andalso byte_size(Role) =< 32 andalso case Who of
         {user, User} -> is_text(User);

@@ -7,7 +7,7 @@
 
 -include_lib("p1_sip/include/esip.hrl").
 
--export([decode/1, uri/1]).
+-export([decode/1, reads/1, uri/1]).
 
 %% The maximum size of a head in bytes, and its maximum number of lines, values and parameters. Such a head takes less
 %% than a millisecond.
@@ -25,6 +25,11 @@
                 <<"supported">> => supported, <<"k">> => supported, <<"authorization">> => authorization,
                 <<"p-asserted-identity">> => 'p-asserted-identity'}).
 -define(HOST, "(\\[[0-9A-Fa-f:.]+\\]|[A-Za-z0-9_.-]+)").
+
+%% @doc Returns whether this is the name, in lower case, of a header that the controller itself uses. Such a header can't
+%% be that of a role.
+-spec reads(Name :: binary()) -> boolean().
+reads(Name) -> is_map_key(Name, ?KEYS).
 
 %% @doc Decodes a message. If a request can be answered, but not served, returns the status of the answer. A malformed
 %% header stays as text. If a header that isn't a list occurs twice, only the first one is kept, and the message counts

@@ -38,6 +38,14 @@ top_test_() ->
         ?_assertMatch({ok, #{tokens := [{_, operator, <<"Ann">>}], audit_log := #{bytes := 16777216, files := 9}}},
                       lobby_config:check([Gateways, {tokens, [{<<"0123456789abcdef">>, operator, <<"Ann">>}]}, {audit_log, #{file => "/tmp/log"}}]))].
 
+%% A header of a role has a name in lower case, and the controller doesn't use it for anything else.
+roles_test_() ->
+    Check = fun(Name) -> lobby_config:check([{gateways, [#{name => <<"a">>, address => ?ADDRESS}]},
+                                             {roles, [{header, Name, [{{10, 0, 0, 0}, 8}]}]}]) end,
+    [?_assertMatch({ok, #{roles := [_]}}, Check(<<"x-role">>))
+     | [?_assertMatch({error, "roles must be a list such as " ++ _}, Check(Name))
+        || Name <- [<<"X-Role">>, <<"p-asserted-identity">>, <<"from">>, <<"t">>]]].
+
 %% By default, one address gets a quarter of the gateways' capacity.
 shares_test() ->
     Gateways = {gateways, [#{name => <<"a">>, address => ?ADDRESS}, #{name => <<"b">>, address => ?ADDRESS, terminations => 16, contexts => 8}]},

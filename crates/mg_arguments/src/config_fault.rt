@@ -1,14 +1,14 @@
 ghost use Rattle.std.specs.Prelude.{IfNone, IfSome};
 ghost use Rattle.mg_engine.specs.Config.{IsValidConfig};
 
-use mg_core::{Config, TERMINATIONS};
+use mg_core::{Config, TERMINATION_LIMIT};
 use mg_words::LAST_CONTEXT;
 use thiserror::Error;
 
 /// The reason why a gateway cannot start with a configuration: its first invalid option.
 #[derive(Clone, Copy, Debug, PartialEq, Eq, Error)]
 pub enum ConfigFault {
-    #[error("--slots must be from 1 to {most}", most = TERMINATIONS)]
+    #[error("--slots must be from 1 to {most}", most = TERMINATION_LIMIT)]
     Slots,
     #[error("--first-termination must be at least 1")]
     FirstTermination,
@@ -29,7 +29,7 @@ impl ConfigFault {
         if config.is_sound() {
             return None;
         }
-        if config.slots == 0 || usize::from(config.slots) > TERMINATIONS {
+        if config.slots == 0 || usize::from(config.slots) > TERMINATION_LIMIT {
             return Some(ConfigFault::Slots);
         }
         if config.first_termination == 0 {

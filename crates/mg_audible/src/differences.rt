@@ -10,11 +10,11 @@ ghost use Rattle.mg_heard.specs.aids.Parties.{IsParty};
 ghost use Rattle.mg_audible.specs.Audible.{audible_flows, bytes_from};
 
 use arrayvec::ArrayVec;
-use mg_core::{Core, Datagram, TERMINATIONS};
+use mg_core::{Core, Datagram, TERMINATION_LIMIT};
 use mg_heard::{OpenFlow, Party};
 
 /// The flows that are audible in a tick, in order of listeners.
-pub(crate) type AudibleFlows = ArrayVec<OpenFlow, TERMINATIONS>;
+pub(crate) type AudibleFlows = ArrayVec<OpenFlow, TERMINATION_LIMIT>;
 
 /// Returns the first packet from a port.
 fn packet_from(port: u16, packets: &[Datagram]) -> Option<Datagram>
@@ -60,7 +60,7 @@ fn party_named(core: &Core, number: u32) -> Party
 /// Returns the audible flows of the tick that two cores have just run: one flow for each listener to whom they sent
 /// different bytes.
 pub(crate) fn audible_flows(talker: u32, whole: &Core, without: &Core) -> AudibleFlows
-    ensures few { length result.items ≤ TERMINATIONS }
+    ensures few { length result.items ≤ TERMINATION_LIMIT }
     ensures consistent { IsConsistent whole.now.state.engine.rooms }
     ensures value { (v w : World) → StandsFor whole.now.state (world_after_tick v) →
         whole.now.outbox ≡ packets_of v → without.now.outbox ≡ packets_of w →

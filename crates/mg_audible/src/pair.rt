@@ -7,7 +7,7 @@ ghost use Rattle.mg_audible.specs.aids.Keeping.{LeadsBoth, StandForBoth};
 
 use crate::differences::{AudibleFlows, audible_flows};
 use crate::ports::is_port_of;
-use mg_core::{Core, NoMemory, Peer, TERMINATIONS};
+use mg_core::{Core, NoMemory, Peer, TERMINATION_LIMIT};
 use std::alloc::Global;
 
 /// Two gateways with the same events, except that the second gateway does not receive the talker's speech.
@@ -53,7 +53,7 @@ impl Pair {
 
     /// Runs a tick on both gateways. Returns the audible flows of the tick.
     pub(crate) fn tick(&mut self) -> AudibleFlows
-        ensures few { length result.items ≤ TERMINATIONS }
+        ensures few { length result.items ≤ TERMINATION_LIMIT }
         ensures consistent { IsConsistent self.new.whole.state.engine.rooms }
         ensures value { (v w : World) → StandForBoth self.old.whole.state self.old.without.state v w →
             (result.items ≡ audible_flows self.old.talker v w) × StandForBoth self.new.whole.state

@@ -1,6 +1,6 @@
 use crate::parts_reading::{closing, names, numbered_32};
 use arrayvec::ArrayVec;
-use mg_words::MEMBERS;
+use mg_words::MEMBER_LIMIT;
 
 /// The line of a context.
 #[derive(Drop)]
@@ -10,7 +10,7 @@ pub struct ContextLine {
     pub number: u32,
     pub room: u8,
     /// The members, in order of entry.
-    pub members: ArrayVec<u32, MEMBERS>,
+    pub members: ArrayVec<u32, MEMBER_LIMIT>,
 }
 
 impl ContextLine {

@@ -1,6 +1,6 @@
 use crate::parts_reading::{names, numbered_32};
 use arrayvec::ArrayVec;
-use mg_words::MEMBERS;
+use mg_words::MEMBER_LIMIT;
 
 /// The line of the talkers that a listener may not hear.
 #[derive(Drop)]
@@ -8,7 +8,7 @@ pub struct ListenerLine {
     /// The number of the line.
     pub at: u64,
     pub listener: u32,
-    pub muted: ArrayVec<u32, MEMBERS>,
+    pub muted: ArrayVec<u32, MEMBER_LIMIT>,
 }
 
 impl ListenerLine {

@@ -5,7 +5,7 @@ use arrayvec::ArrayVec;
 use mg_core::count_of;
 use mg_g711::Law;
 use mg_sdp::Chosen;
-use mg_words::{MEMBERS, Mode, address_of, cut};
+use mg_words::{MEMBER_LIMIT, Mode, address_of, cut};
 
 /// Parses a label, a number and a space. Returns the number and the rest of the text.
 pub fn numbered<'a>(label: &[u8], text: &'a [u8]) -> Option<(u64, &'a [u8])> {
@@ -39,10 +39,10 @@ pub fn numbered_8<'a>(label: &[u8], text: &'a [u8]) -> Option<(u8, &'a [u8])> {
 
 /// Parses the names of terminations, up to the first text that isn't such a name. Parses at most as many names as a
 /// context can have members.
-pub fn names(text: &[u8]) -> (ArrayVec<u32, MEMBERS>, &[u8]) {
+pub fn names(text: &[u8]) -> (ArrayVec<u32, MEMBER_LIMIT>, &[u8]) {
     let mut numbers = ArrayVec::new();
     let mut rest = text;
-    for _ in 0..MEMBERS {
+    for _ in 0..MEMBER_LIMIT {
         let Some((n, after)) = numbered_32(b"RTP/", rest) else {
             return (numbers, rest);
         };

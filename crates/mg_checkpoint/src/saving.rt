@@ -16,7 +16,7 @@ use arrayvec::ArrayVec;
 use mg_core::{Core, CoreState};
 use mg_engine::{Engine, Record};
 use mg_kept::Kept;
-use mg_rooms::MEMBERS;
+use mg_rooms::MEMBER_LIMIT;
 use std::alloc::AllocError;
 
 /// Writes the first two lines: the counts of events and the next numbers.
@@ -61,7 +61,7 @@ fn is_muted(engine: &Engine, talker: u32, listener: u32) -> bool
 }
 
 /// Returns the members of a listener's context that the listener may not hear.
-fn muted_for(engine: &Engine, listener: &Record) -> ArrayVec<u32, MEMBERS>
+fn muted_for(engine: &Engine, listener: &Record) -> ArrayVec<u32, MEMBER_LIMIT>
     ensures value { (w : Gateway) → engine_stands.StandsFor engine.now w → result.items ≡ muted_for w listener.now }
 {
     let members = engine.rooms().members(listener.context);

@@ -10,12 +10,12 @@ use crate::name::Name;
 use crate::support::takes_all;
 use mg_engine::{Engine, Target};
 use mg_text::{CommandWord, ErrorNumber};
-use mg_words::MEMBERS;
+use mg_words::MEMBER_LIMIT;
 
 /// Returns the members of an action's context, in order of entry, or none if the context does not exist.
 fn members_in(engine: &Engine, target: Target) -> &[u32]
     ensures value { (w : Gateway) → StandsFor engine.now w → result.now ≡ members_in w target }
-    ensures few { length result.now ≤ MEMBERS }
+    ensures few { length result.now ≤ MEMBER_LIMIT }
 {
     match target {
         Target::Null | Target::New => &[],
@@ -33,7 +33,7 @@ pub fn all_members(
     ensures value { (w : Gateway) → StandsFor engine.now w → MatchResult result
         (λ members. all_names w target word ≡ Ok (map Name.Number members.now))
         (λ e. all_names w target word ≡ Err e) }
-    ensures few { IfOk result (λ members. length members.now ≤ MEMBERS) }
+    ensures few { IfOk result (λ members. length members.now ≤ MEMBER_LIMIT) }
 {
     if !takes_all(word) {
         return Err(ErrorNumber::IdentifierNotAllowed);
@@ -46,11 +46,11 @@ pub fn all_members(
 }
 
 /// Copies the members to the front of an array, because a Subtract changes the context's list of members.
-pub fn copy_of(members: &[u32]) -> [u32; MEMBERS]
-    requires few { length members.now ≤ MEMBERS }
+pub fn copy_of(members: &[u32]) -> [u32; MEMBER_LIMIT]
+    requires few { length members.now ≤ MEMBER_LIMIT }
     ensures front { take (length members.now) result ≡ members.now }
 {
-    let mut copy = [0; MEMBERS];
+    let mut copy = [0; MEMBER_LIMIT];
     copy[..members.len()].copy_from_slice(members);
     copy
 }

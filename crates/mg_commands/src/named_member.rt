@@ -4,7 +4,7 @@ ghost use Rattle.mg_words.specs.Term.{rtp_name};
 use arrayvec::ArrayVec;
 use mg_engine::SeatedMember;
 use mg_reply::RtpName;
-use mg_words::MEMBERS;
+use mg_words::MEMBER_LIMIT;
 use std::marker::Model;
 
 /// A member of a context, together with the name of its termination, so that the name is built only once. In contracts,
@@ -64,8 +64,8 @@ impl Default for NamedMember {
 }
 
 /// Returns members together with their names.
-pub fn named_members(members: &[SeatedMember]) -> ArrayVec<NamedMember, MEMBERS>
-    requires few { length members.now ≤ MEMBERS }
+pub fn named_members(members: &[SeatedMember]) -> ArrayVec<NamedMember, MEMBER_LIMIT>
+    requires few { length members.now ≤ MEMBER_LIMIT }
     ensures value { result.items ≡ members.now }
 {
     let mut named = ArrayVec::new();

@@ -438,7 +438,7 @@ triples_keep w next target xs c h e =
 are_deep : (limits : Limits) (next : ℕ) (rs : List Record) → AllByRecursion (IsTermination limits next) rs → AreDeep rs
 are_deep limits next [] h = tt
 are_deep limits next (r ∷ rs) h =
-    let least = h.0.min_depth in
+    let least = h.0.deep_enough in
     (omega arith, are_deep limits next rs h.1)
 
 placing : (n : ℕ) (p : Header × List ℤ) (g : Gateway) (o : Option TerminationMedia) → AreDeep g.rooms.terminations →

@@ -7,7 +7,7 @@ ghost use Rattle.mg_core.specs.Flows.{changes, ended_line, hearing, in_mode, is_
 use crate::listener::KeptListener;
 use itoa::Buffer;
 use mg_bytes::Bytes;
-use mg_words::{MEMBERS, Mode};
+use mg_words::{MEMBER_LIMIT, Mode};
 
 /// The maximum length, in bytes, of a number in decimal.
 const NUMBER_LIMIT: usize = 20;
@@ -38,7 +38,7 @@ const MODE_LINE_LIMIT: usize = 18 + LINE_HEAD_LIMIT;
 const TALKER_LIMIT: usize = 5 + NUMBER_LIMIT;
 
 /// The maximum length, in bytes, of the names of all members of a context.
-const TALKERS_LIMIT: usize = MEMBERS * TALKER_LIMIT;
+const TALKERS_LIMIT: usize = MEMBER_LIMIT * TALKER_LIMIT;
 
 /// The maximum length, in bytes, of the line that reports whom a termination hears: its start, ` hears`, names and a
 /// line feed.
@@ -159,7 +159,7 @@ fn push_name(number: u32, out: &mut Bytes)
 /// Writes the names of terminations, or `nobody` if there are none.
 #[tactic(auto, using(crate::proofs::ChangeLemmas::steps))]
 fn push_names(numbers: &[u32], out: &mut Bytes)
-    requires few { length numbers.now ≤ MEMBERS }
+    requires few { length numbers.now ≤ MEMBER_LIMIT }
     requires room { TALKERS_LIMIT ≤ out.old.room }
     ensures value { out.new ≡ appended out.old (names_in_line numbers.now) }
     ensures short { length (names_in_line numbers.now) ≤ TALKERS_LIMIT }

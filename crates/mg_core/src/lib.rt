@@ -70,4 +70,4 @@ pub use crate::watching::{watch, watch_from};
 #[doc(hidden)]
 pub use crate::state::CoreState;
 pub use mg_engine::{Config, Datagram, Peer, Record, StartFault, Taken};
-pub use mg_rooms::TERMINATIONS;
+pub use mg_rooms::TERMINATION_LIMIT;

@@ -9,7 +9,7 @@ ghost use Rattle.mg_core.specs.aids.Stands.{StandsFor};
 use crate::machine::Core;
 use arrayvec::ArrayVec;
 use mg_engine::Record;
-use mg_rooms::MEMBERS;
+use mg_rooms::MEMBER_LIMIT;
 use mg_words::Mode;
 use std::marker::Model;
 
@@ -22,7 +22,7 @@ pub struct KeptListener {
     pub port: u16,
     pub mode: Mode,
     /// The talkers, in order of termination number.
-    pub talkers: ArrayVec<u32, MEMBERS>,
+    pub talkers: ArrayVec<u32, MEMBER_LIMIT>,
 }
 
 impl Model for KeptListener {
@@ -69,7 +69,7 @@ impl KeptListener {
 
 /// Returns the talkers whose speech flows to a listener. They are members of the listener's context, so there is room
 /// for all of them.
-fn talkers_of(core: &Core, listener: &Record) -> ArrayVec<u32, MEMBERS>
+fn talkers_of(core: &Core, listener: &Record) -> ArrayVec<u32, MEMBER_LIMIT>
     requires there { record_at core.now.state.engine.rooms listener.now.number ≡ Some listener.now }
     ensures value { (w : World) → StandsFor core.now.state w →
         result.items ≡ filter (λ n. flow w.gateway n listener.now.number) (numbers_of w.gateway) }

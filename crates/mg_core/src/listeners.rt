@@ -5,7 +5,7 @@ ghost use Rattle.mg_core.specs.aids.Stands.{StandsFor};
 
 use crate::listener::KeptListener;
 use crate::machine::Core;
-use mg_rooms::TERMINATIONS;
+use mg_rooms::TERMINATION_LIMIT;
 use std::alloc::{AllocError, Global};
 use std::marker::Model;
 
@@ -34,8 +34,8 @@ impl KeptListeners {
     pub fn new(alloc: Global) -> Result<Self, AllocError>
         ensures value { IfOk result (λ x. x ≡ []) }
     {
-        let mut places = Vec::with_capacity(alloc, TERMINATIONS)?;
-        for _ in 0..TERMINATIONS {
+        let mut places = Vec::with_capacity(alloc, TERMINATION_LIMIT)?;
+        for _ in 0..TERMINATION_LIMIT {
             places.push(KeptListener::new())?;
         }
         Ok(KeptListeners { places, len: 0 })
@@ -50,7 +50,7 @@ impl KeptListeners {
 
     pub fn as_slice(&self) -> &[KeptListener]
         ensures value { result.now ≡ self.now }
-        ensures few { length result.now ≤ TERMINATIONS }
+        ensures few { length result.now ≤ TERMINATION_LIMIT }
     {
         &self.places[..self.len]
     }
@@ -58,9 +58,9 @@ impl KeptListeners {
 
 /// Stores the terminations of a core in the first places. Returns how many terminations it stored.
 fn fill_places(places: &mut [KeptListener], core: &Core) -> usize
-    requires places { length places.old ≡ TERMINATIONS }
+    requires places { length places.old ≡ TERMINATION_LIMIT }
     ensures front { (w : World) → StandsFor core.now.state w → take result places.new ≡ listeners_of w.gateway }
-    ensures within { result ≤ TERMINATIONS }
+    ensures within { result ≤ TERMINATION_LIMIT }
 {
     let count = core.terminations();
     for place in 0..count {

@@ -35,7 +35,7 @@ use mg_bytes::Bytes;
 use mg_commands::Kept;
 use mg_engine::{Config, Datagram, Engine, Outbox, Peer, Record, Rooms, StartFault, Stats, Taken};
 use mg_reply::{HEAD_LIMIT, Reply, write_head};
-use mg_rooms::TERMINATIONS;
+use mg_rooms::TERMINATION_LIMIT;
 use mg_text::{ErrorNumber, Message, REQUEST_LIMIT, read};
 use mg_topology::mask::Mask;
 use std::alloc::{AllocError, Global};
@@ -303,7 +303,7 @@ impl Core {
     /// Returns the packets of the last tick, in order of termination number. There are none after a skip.
     pub fn outbox(&self) -> &[Datagram]
         ensures value { result.now ≡ self.now.outbox }
-        ensures few { length result.now ≤ TERMINATIONS }
+        ensures few { length result.now ≤ TERMINATION_LIMIT }
     {
         self.outbox.as_slice()
     }
@@ -348,7 +348,7 @@ impl Core {
     /// Returns the number of terminations.
     pub fn terminations(&self) -> usize
         ensures value { result ≡ length self.now.state.engine.rooms.terminations }
-        ensures few { result ≤ TERMINATIONS }
+        ensures few { result ≤ TERMINATION_LIMIT }
         ensures consistent { IsConsistent self.now.state.engine.rooms }
     {
         self.state.engine.terminations()

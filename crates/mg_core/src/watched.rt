@@ -9,7 +9,7 @@ use crate::listeners::KeptListeners;
 use crate::machine::Core;
 use mg_bytes::Bytes;
 use mg_lines::{WriteFailed, write_whole};
-use mg_rooms::TERMINATIONS;
+use mg_rooms::TERMINATION_LIMIT;
 use std::alloc::{AllocError, Global};
 use std::io::Write;
 use std::marker::Model;
@@ -17,7 +17,7 @@ use std::mem;
 
 /// The maximum length of the reported changes, in bytes, if every termination ends and as many new terminations are
 /// created.
-const CHANGES_LIMIT: usize = TERMINATIONS * (ENDED_LIMIT + NEW_LIMIT);
+const CHANGES_LIMIT: usize = TERMINATION_LIMIT * (ENDED_LIMIT + NEW_LIMIT);
 
 /// The terminations of a gateway after its last changes. In contracts, they appear as a list.
 #[derive(Drop)]

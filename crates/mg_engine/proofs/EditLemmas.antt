@@ -2,7 +2,7 @@
 -- exports names for the proofs of edits.
 use Rattle.mg_engine.proofs.Common.{◌≡◌, ◌≢◌, ℕ, ◌<◌, ◌≤◌, eqb, not, Bool, true, false, ℤ, List, [], ◌∷◌, ◌++◌, length, map, get_or, set, Option, Some, None, refl, sym, ap, subst, ◌∙◌, arith, count_by, option_map, view, eqb-true, eq-eqb, ne_eqb, same_Some, length-map, map-append, get_or-set_same, get_or-set_other, PlayList, Limits, Record, Settings, change, IsSound, record_at, Config, silence, Gateway, TerminationMedia, ContextEdit, Enter, new_media, media_of, idle, tuned, media_with, added, subtracted, EngineState, StandsFor, IsMediaOf, media_at, find, filter, set-set, length_push, Registry, RoomFlows, play_after, media_without, SlotMedia, SumsState, find-change_other, find-push_other, initial_media, Inside, IsWholeEngine, slot_tuned}
 use Rattle.std.proofs.lemmas.Option.{slice_get-get_or}
-use Rattle.mg_words.specs.declared.limits.TheConstants.{TERMINATIONS}
+use Rattle.mg_words.specs.declared.limits.TheConstants.{TERMINATION_LIMIT}
 pub use Rattle.mg_engine.proofs.MemberLemmas.{Hears, Others, another, carry, free_place, has_entered, has_left, has_mode, hears_all, hears_carry, hears_entered, hears_left, hears_mode, hears_some, members_all, no_record, same_others, stayed_at, unequal, unknown}
 pub use Rattle.mg_engine.proofs.PlaceLemmas.{member_within, on_its_place, one_record}
 pub use Rattle.mg_engine.proofs.JoinedLemmas.{joined_changed, joined_left}
@@ -65,7 +65,7 @@ has_stats e w n r whole h there =
     (ap Some (sym same.stats))
 
 pub room_left : (e : Inside) (new : Registry) (d : Record) → IsWholeEngine e → Adds e.rooms new d → IsSound new →
-    length e.held.items < TERMINATIONS
+    length e.held.items < TERMINATION_LIMIT
 room_left e new d h a sound =
     let more = ap length a.terminations ∙ length_push e.rooms.terminations d in
     let some = ap length h.held ∙ length-map e.rooms.terminations (λ r. r.slot) in

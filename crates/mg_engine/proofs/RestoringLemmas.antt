@@ -5,7 +5,7 @@ use Rattle.mg_rooms.proofs.RestoreLemmas.{MayRestore, restored_terminations}
 use Rattle.mg_rooms.proofs.PutLemmas.{place-at, count-place}
 use Rattle.mg_rooms.proofs.OrderLemmas.{length-place}
 use Rattle.mg_rooms.proofs.CountLemmas.{all_counted, count-weaker}
-use Rattle.mg_words.specs.declared.limits.TheConstants.{TERMINATIONS}
+use Rattle.mg_words.specs.declared.limits.TheConstants.{TERMINATION_LIMIT}
 use Rattle.mg_flow.specs.Place.{are_together, is_same_place}
 use Rattle.mg_flow.specs.aids.Table.{KeepsPlaces, hears, holds}
 use Rattle.mg_flow.specs.aids.Words.{are_at}
@@ -287,7 +287,7 @@ held_put old new d room rank held now h may is before at inserted =
 pub insert_fits : (e : Inside) (new : Registry) (d : Record) (room rank : ℕ) → IsWholeEngine e →
     new ≡ restored e.rooms d room → IsSound new →
     rank ≡ count_by (λ r. nat_lt r.number d.number) new.terminations →
-    (rank ≤ length e.held.items) × (length e.held.items < TERMINATIONS)
+    (rank ≤ length e.held.items) × (length e.held.items < TERMINATION_LIMIT)
 insert_fits e new d room rank h is sound at =
     let rs = ap (λ x. x.terminations) is ∙ restored_terminations e.rooms d room in
     let test : Record → Bool = λ r. nat_lt r.number d.number in

@@ -1,7 +1,7 @@
 ghost use Rattle.std.specs.Prelude.{◌≡◌, ◌↔◌, IsTrue};
 ghost use Rattle.mg_rooms.specs.Limits.{AreValidLimits};
 
-use mg_rooms::{Limits, TERMINATIONS};
+use mg_rooms::{Limits, TERMINATION_LIMIT};
 
 /// The configuration of a gateway.
 ///
@@ -16,7 +16,7 @@ pub struct Config {
     pub control_port: u16,
     /// The first UDP port for media.
     pub base_port: u16,
-    /// The number of media ports, from 1 to [`TERMINATIONS`].
+    /// The number of media ports, from 1 to [`TERMINATION_LIMIT`].
     pub slots: u16,
     /// The number of the first termination.
     pub first_termination: u32,
@@ -42,7 +42,7 @@ impl Default for Config {
             control_address: [127, 0, 0, 1],
             control_port: 2944,
             base_port: 30000,
-            slots: TERMINATIONS as u16,
+            slots: TERMINATION_LIMIT as u16,
             first_termination: 1,
             first_context: 1,
             ssrc: 0,
@@ -57,7 +57,7 @@ impl Config {
 
     /// Returns whether a gateway can start with this configuration.
     ///
-    /// The media ports must be even, not 0 and at most 65535. There must be 1 to [`TERMINATIONS`] of them, and the
+    /// The media ports must be even, not 0 and at most 65535. There must be 1 to [`TERMINATION_LIMIT`] of them, and the
     /// control port must be neither 0 nor one of them. The numbers of the first termination and the first context must
     /// be in range.
     pub fn is_sound(&self) -> bool

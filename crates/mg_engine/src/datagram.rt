@@ -3,11 +3,11 @@ ghost use Rattle.mg_g711.specs.Law.{byte_of};
 ghost use Rattle.mg_engine.specs.declared.datagram.Datagram.{Datagram};
 ghost use Rattle.mg_engine.specs.aids.Shares.{IsPut, packet_at, payload_of};
 ghost use Rattle.mg_engine.specs.aids.Sending.{addressed};
-ghost use Rattle.mg_words.specs.declared.limits.TheConstants.{TERMINATIONS};
+ghost use Rattle.mg_words.specs.declared.limits.TheConstants.{TERMINATION_LIMIT};
 
 use arrayvec::ArrayVec;
 use mg_g711::{Frame, Law, encode_frame};
-use mg_rooms::TERMINATIONS;
+use mg_rooms::TERMINATION_LIMIT;
 use mg_rtp::{Header, PACKET_LEN, write_header, write_payload};
 use mg_words::Peer;
 
@@ -53,11 +53,11 @@ impl Datagram {
 }
 
 /// The packets of one tick, in order of termination number.
-pub type Outbox = ArrayVec<Datagram, TERMINATIONS>;
+pub type Outbox = ArrayVec<Datagram, TERMINATION_LIMIT>;
 
 /// Appends a packet with a frame, encoded by this law, to an outbox. The packet's header and addresses are set later.
 pub fn push_payload(outbox: &mut Outbox, law: Law, frame: &Frame)
-    requires room { length outbox.old.items < TERMINATIONS }
+    requires room { length outbox.old.items < TERMINATION_LIMIT }
     ensures put { IsPut outbox.old.items outbox.new.items (map (byte_of law) frame.now) }
 {
     outbox.push(Datagram::default());
@@ -79,7 +79,7 @@ pub fn address_last(outbox: &mut Outbox, from: u16, to: Peer, header: Header)
 /// Appends a copy of the packet at this index to the outbox.
 pub fn lend(outbox: &mut Outbox, packet: u8)
     requires there { packet < length outbox.old.items }
-    requires room { length outbox.old.items < TERMINATIONS }
+    requires room { length outbox.old.items < TERMINATION_LIMIT }
     ensures value { outbox.new.items ≡ outbox.old.items ++ packet_at outbox.old.items packet ∷ [] }
 {
     let lent = outbox[usize::from(packet)];

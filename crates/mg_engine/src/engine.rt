@@ -1,6 +1,6 @@
 ghost use Rattle.std.specs.Prelude.{All, ◌≡◌, ◌≢◌, ℕ, List, [], ◌∷◌, ◌<◌, ◌≤◌, ◌+◌, ◌++◌, ◌↔◌, ◌==◌, not, Err, Some, IfOk, IfSome, IsSome, OnOk, OnErr, MatchResult, Ok, EachIndex, length, map, filter, replicate, slice_set, option_map, option_to_list, slice_index_or, IsTrue, false, None, ◌*◌, sum_by, count_by, min, ◌-◌, ◌^◌};
 ghost use Rattle.mg_rooms.specs.declared.record.Record.{Record};
-ghost use Rattle.mg_words.specs.declared.limits.TheConstants.{TERMINATIONS};
+ghost use Rattle.mg_words.specs.declared.limits.TheConstants.{TERMINATION_LIMIT};
 ghost use Rattle.std.specs.List.{range_with_len, slice_get};
 ghost use Rattle.mg_rooms.specs.Limits.{slot_port};
 ghost use Rattle.mg_rooms.specs.Outcome.{is_number, member};
@@ -61,7 +61,7 @@ use crate::triples::{TopologyRoom, triples_of};
 use arrayvec::ArrayVec;
 use mg_flow::{FlowTable, Place};
 use mg_g711::{Frame, Law};
-use mg_rooms::{ErrorNumber, MEMBERS, Record, Rooms, Settings, TERMINATIONS, Target};
+use mg_rooms::{ErrorNumber, MEMBER_LIMIT, Record, Rooms, Settings, TERMINATION_LIMIT, Target};
 use mg_rtp::{Packet, RtpFault, read};
 use mg_sdp::Chosen;
 use mg_sums::{Room, Row, Sums};
@@ -79,7 +79,7 @@ pub struct Engine {
     /// The media of each slot.
     pub(crate) media: Vec<HeldMedia>,
     /// The slots that terminations hold, in order of termination number.
-    pub(crate) held: ArrayVec<u8, TERMINATIONS>,
+    pub(crate) held: ArrayVec<u8, TERMINATION_LIMIT>,
     /// Who hears whom, in terms of the members' places.
     pub(crate) flows: FlowTable,
     /// The slot of the member at each place.
@@ -182,7 +182,7 @@ impl Engine {
     /// Returns the number of terminations.
     pub fn terminations(&self) -> usize
         ensures value { result ≡ length self.now.rooms.terminations }
-        ensures few { result ≤ TERMINATIONS }
+        ensures few { result ≤ TERMINATION_LIMIT }
         ensures consistent { IsConsistent self.now.rooms }
     {
         self.held.len()
@@ -496,7 +496,7 @@ impl Engine {
     /// Returns the members of a context with their places, in order of entry.
     ///
     /// This saves lookups for code that queries many pairs.
-    pub fn seated(&self, context: u32) -> ArrayVec<SeatedMember, MEMBERS>
+    pub fn seated(&self, context: u32) -> ArrayVec<SeatedMember, MEMBER_LIMIT>
         ensures numbers { (w : Gateway) → StandsFor self.now w →
             map (λ m. m.number) result.items ≡ members_at w.rooms context }
         ensures places { All (IsOnSeat self.now.rooms) result.items }
@@ -663,7 +663,7 @@ impl Engine {
 
     /// Appends the packet from the termination in a slot, if that termination sends.
     fn put_packet(&mut self, slot: u8, outbox: &mut Outbox)
-        requires room { length outbox.old.items < TERMINATIONS }
+        requires room { length outbox.old.items < TERMINATION_LIMIT }
         requires shared { AreShared self.old outbox.old.items }
         ensures put { (r : Record) → holder_of self.old.rooms slot ≡ Some r →
             outbox.new.items ≡ outbox.old.items ++ option_to_list (option_map (packet_now self.old r) (sent_to r)) }
@@ -709,7 +709,7 @@ impl Engine {
     fn put_payload(&mut self, sender: &Record, law: Law, outbox: &mut Outbox)
         requires member { record_at self.old.rooms sender.now.number ≡ Some sender.now }
         requires sends { IsTrue (sends sender.now.mode) }
-        requires room { length outbox.old.items < TERMINATIONS }
+        requires room { length outbox.old.items < TERMINATION_LIMIT }
         requires shared { AreShared self.old outbox.old.items }
         ensures put { IsPut outbox.old.items outbox.new.items (map (byte_of law) (mixed_now self.old sender.now)) }
         ensures shared { (sent : Datagram) → payload_of sent ≡ map (byte_of law) (mixed_now self.old sender.now) →
@@ -734,7 +734,7 @@ impl Engine {
     fn put_heard(&mut self, listener: &Record, place: Place, law: Law, outbox: &mut Outbox)
         requires place { IsOnPlace self.old.rooms listener.now.number listener.now place }
         requires listens { IsTrue (listens listener.now.mode) }
-        requires room { length outbox.old.items < TERMINATIONS }
+        requires room { length outbox.old.items < TERMINATION_LIMIT }
         requires shared { AreShared self.old outbox.old.items }
         ensures put { IsPut outbox.old.items outbox.new.items
             (map (byte_of law) (map (λ i. nearest_sample (heard_now self.old listener.now i)) (range_with_len 0 160))) }
@@ -783,7 +783,7 @@ impl Engine {
 /// Fills an outbox with a packet from each termination that sends, in order of termination number.
 fn fill(engine: &mut Engine, count: usize, outbox: &mut Outbox)
     requires all { count ≡ length engine.old.rooms.terminations }
-    requires few { count ≤ TERMINATIONS }
+    requires few { count ≤ TERMINATION_LIMIT }
     requires sound { IsSound engine.old.rooms }
     requires nothing { outbox.old.items ≡ [] }
     requires unshared { engine.old.shares ≡ replicate context_limit [] }
@@ -839,7 +839,7 @@ fn play(media: &mut Vec<HeldMedia>, sums: &mut Sums, slot: u8) -> bool
 /// Advances the play list of each held slot. Returns how many missing frames were concealed.
 fn play_slots(held: &[u8], media: &mut Vec<HeldMedia>, sums: &mut Sums) -> usize
     requires slots { EachIndex held.now (λ i. slice_index_or held.now i 0 < length media.old.items) }
-    requires few { length media.old.items ≤ TERMINATIONS }
+    requires few { length media.old.items ≤ TERMINATION_LIMIT }
     requires apart { AreApart held.now }
     ensures long { length media.new.items ≡ length media.old.items }
     ensures each { EachIndex held.now (λ i. IsPlayed media.old.items media.new.items sums.new.frames
@@ -943,7 +943,7 @@ fn begin(media: &mut Vec<HeldMedia>, sums: &mut Sums, slot: u8, config: &Config)
 }
 
 /// Removes a slot from the list of held slots.
-fn without(held: &mut ArrayVec<u8, TERMINATIONS>, slot: u8)
+fn without(held: &mut ArrayVec<u8, TERMINATION_LIMIT>, slot: u8)
     ensures value { held.new.items ≡ filter (λ s. not (s == slot)) held.old.items }
 {
     held.retain(|other| *other != slot);

@@ -1,5 +1,5 @@
 ghost use Rattle.std.specs.Prelude.{◌≡◌, ◌≤◌, IfOk};
-ghost use Rattle.mg_words.specs.Limits.{least_depth, greatest_depth};
+ghost use Rattle.mg_words.specs.Limits.{min_depth, max_depth};
 
 use crate::sent_media::SentMedia;
 use mg_g711::Frame;
@@ -72,7 +72,7 @@ impl HeldMedia {
 
     /// Resets the media for a termination that has sent this and received nothing. Its play list has this depth.
     pub fn restore(&mut self, depth: u8, sent: SentMedia)
-        requires depth { (least_depth ≤ depth) × (depth ≤ greatest_depth) }
+        requires depth { (min_depth ≤ depth) × (depth ≤ max_depth) }
         ensures value { self.new ≡ media_restored depth sent }
     {
         self.play.clear();

@@ -5,7 +5,7 @@
 
 ghost use Rattle.std.specs.Prelude.{◌≡◌, ℕ, ◌<◌, ◌≤◌, ◌+◌, ◌*◌, ◌%◌, ◌^◌, ◌&&◌, true, false, IsTrue, IfSome, IfNone, Some, length, if◌then◌else◌, slice_set, option_map};
 ghost use Rattle.std.specs.List.{slice_get};
-ghost use Rattle.mg_words.specs.Limits.{termination_limit, least_depth, greatest_depth};
+ghost use Rattle.mg_words.specs.Limits.{termination_limit, min_depth, max_depth};
 ghost use Rattle.mg_rooms.specs.aids.Sound.{IsSound};
 ghost use Rattle.mg_rooms.specs.aids.Restoring.{may_restore, may_skip, restored, skipped};
 ghost use Rattle.mg_sums.specs.Samples.{silence};
@@ -149,7 +149,7 @@ fn assert_ranges(timestamp: u32, sequence: u16)
 /// Resets the media of a slot for a termination that has sent this and received nothing, with a silent frame.
 fn begin_with(media: &mut Vec<HeldMedia>, sums: &mut Sums, termination: &Record, sent: SentMedia)
     requires slot { (termination.now.slot < length media.old.items) × (termination.now.slot < termination_limit) }
-    requires depth { (least_depth ≤ termination.now.depth) × (termination.now.depth ≤ greatest_depth) }
+    requires depth { (min_depth ≤ termination.now.depth) × (termination.now.depth ≤ max_depth) }
     ensures restored { media.new.items ≡
         slice_set media.old.items termination.now.slot (media_restored termination.now.depth sent) }
     ensures silent { sums.new.frames ≡ slice_set sums.old.frames termination.now.slot silence }

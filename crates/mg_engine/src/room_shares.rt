@@ -5,7 +5,7 @@ use crate::share::Share;
 use arrayvec::ArrayVec;
 use mg_g711::Law;
 use mg_topology::mask::Mask;
-use mg_words::MEMBERS;
+use mg_words::MEMBER_LIMIT;
 use std::marker::Model;
 
 /// How many of a room's newest packets are searched.
@@ -14,7 +14,7 @@ const NEWEST: usize = 8;
 /// The packets of one room whose payloads other members can share: at most as many as a context can have members.
 #[derive(Drop)]
 pub struct RoomShares {
-    shares: ArrayVec<Share, MEMBERS>,
+    shares: ArrayVec<Share, MEMBER_LIMIT>,
 }
 
 impl Model for RoomShares {

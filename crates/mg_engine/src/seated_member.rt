@@ -4,7 +4,7 @@ ghost use Rattle.mg_engine.specs.aids.Place.{IsOnSeat, seated_place};
 
 use arrayvec::ArrayVec;
 use mg_flow::Place;
-use mg_rooms::{MEMBERS, Rooms};
+use mg_rooms::{MEMBER_LIMIT, Rooms};
 
 /// A member of a context with its place, both found in one lookup. The place is valid until the next edit.
 #[derive(Clone, Copy, Debug, Default, PartialEq, Eq)]
@@ -44,8 +44,8 @@ fn seated_member(rooms: &Rooms, number: u32) -> SeatedMember
 }
 
 /// Returns the terminations with these numbers, together with their places.
-pub fn seated_members(rooms: &Rooms, numbers: &[u32]) -> ArrayVec<SeatedMember, MEMBERS>
-    requires few { length numbers.now ≤ MEMBERS }
+pub fn seated_members(rooms: &Rooms, numbers: &[u32]) -> ArrayVec<SeatedMember, MEMBER_LIMIT>
+    requires few { length numbers.now ≤ MEMBER_LIMIT }
     requires there { (i : ℕ) → i < length numbers.now → IsSome (record_at rooms.now (slice_index_or numbers.now i 0)) }
     ensures numbers { map (λ m. m.number) result.items ≡ numbers.now }
     ensures places { All (IsOnSeat rooms.now) result.items }

@@ -4,7 +4,7 @@ ghost use Rattle.mg_engine.specs.aids.Seating.{slot_at, index_of, place_count};
 
 use mg_flow::Place;
 use mg_topology::SEATS;
-use mg_words::CONTEXTS;
+use mg_words::CONTEXT_LIMIT;
 use std::alloc::{AllocError, Global};
 use std::marker::Model;
 
@@ -40,7 +40,7 @@ impl Seating {
         ensures value { IfOk result (λ seating. seating ≡ replicate place_count 0) }
     {
         let mut slots = Vec::new(alloc);
-        for _ in 0..CONTEXTS * SEATS {
+        for _ in 0..CONTEXT_LIMIT * SEATS {
             slots.push(0)?;
         }
         Ok(Seating { slots })

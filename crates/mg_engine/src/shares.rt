@@ -6,7 +6,7 @@ use crate::room_shares::RoomShares;
 use crate::share::Share;
 use mg_g711::Law;
 use mg_topology::mask::Mask;
-use mg_words::CONTEXTS;
+use mg_words::CONTEXT_LIMIT;
 use std::alloc::{AllocError, Global};
 use std::marker::Model;
 
@@ -34,7 +34,7 @@ impl Shares {
         ensures value { IfOk result (λ shares. shares ≡ replicate context_limit []) }
     {
         let mut rooms = Vec::new(alloc);
-        for _ in 0..CONTEXTS {
+        for _ in 0..CONTEXT_LIMIT {
             rooms.push(RoomShares::new())?;
         }
         Ok(Shares { rooms })

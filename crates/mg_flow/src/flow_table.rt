@@ -13,7 +13,7 @@ use crate::place::Place;
 use crate::room_flows::RoomFlows;
 use mg_topology::mask::{self, Mask};
 use mg_topology::{Overlap, Triple};
-use mg_words::CONTEXTS;
+use mg_words::CONTEXT_LIMIT;
 use std::alloc::{AllocError, Global};
 use std::marker::Model;
 
@@ -54,8 +54,8 @@ impl FlowTable {
     pub fn new(alloc: Global) -> Result<Self, AllocError>
         ensures edits { IfOk result (λ table. StandsFor table []) }
     {
-        let mut rooms = Vec::with_capacity(alloc, CONTEXTS)?;
-        for _ in 0..CONTEXTS {
+        let mut rooms = Vec::with_capacity(alloc, CONTEXT_LIMIT)?;
+        for _ in 0..CONTEXT_LIMIT {
             rooms.push(RoomFlows::new())?;
         }
         Ok(FlowTable { rooms })

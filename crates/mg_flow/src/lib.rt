@@ -1,9 +1,9 @@
 //! Who hears whom in all rooms: each listener's open and silenced talkers.
 //!
-//! A gateway has [`CONTEXTS`](mg_words::CONTEXTS) rooms, one for each context. A member of a context has a [`Place`]:
-//! the room and a seat in it. A [`FlowTable`] keeps a topology for each room. For each place it records whether the
-//! member talks and whether it listens, according to its stream mode (RFC 3525, section 7.1.7). From these it derives
-//! two sets of seats for each listener:
+//! A gateway has [`CONTEXT_LIMIT`](mg_words::CONTEXT_LIMIT) rooms, one for each context. A member of a context has a
+//! [`Place`]: the room and a seat in it. A [`FlowTable`] keeps a topology for each room. For each place it records
+//! whether the member talks and whether it listens, according to its stream mode (RFC 3525, section 7.1.7). From these
+//! it derives two sets of seats for each listener:
 //!
 //! - [`FlowTable::open`]: the members whose speech flows to the listener. Each of them talks, the listener listens, and
 //!   the last word on the pair lets the speech through (RFC 3525, section 7.1.18).

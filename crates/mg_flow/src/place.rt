@@ -4,7 +4,7 @@
 /// and the seat after the member has left.
 #[derive(Clone, Copy, Debug, PartialEq, Eq, Hash)]
 pub struct Place {
-    /// The room, below [`CONTEXTS`](mg_words::CONTEXTS).
+    /// The room, below [`CONTEXT_LIMIT`](mg_words::CONTEXT_LIMIT).
     pub room: u8,
     /// The seat, below [`SEATS`](mg_topology::SEATS).
     pub seat: u8,

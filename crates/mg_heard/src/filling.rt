@@ -11,11 +11,11 @@ use crate::hearer::{Hearer, hearers_of};
 use crate::moment::Moment;
 use crate::open_flow::OpenFlow;
 use crate::open_interval::OpenInterval;
-use mg_core::{Core, TERMINATIONS};
-use mg_words::MEMBERS;
+use mg_core::{Core, TERMINATION_LIMIT};
+use mg_words::MEMBER_LIMIT;
 
-/// An upper limit for the number of open flows: each termination hears at most [`MEMBERS`] others.
-pub(crate) const FLOWS: usize = TERMINATIONS * MEMBERS;
+/// An upper limit for the number of open flows: each termination hears at most [`MEMBER_LIMIT`] others.
+pub(crate) const FLOWS: usize = TERMINATION_LIMIT * MEMBER_LIMIT;
 
 /// Fills the first places with an interval for each flow that is open in a core. Returns how many intervals were
 /// stored.

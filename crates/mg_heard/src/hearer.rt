@@ -8,7 +8,7 @@ ghost use Rattle.mg_heard.specs.aids.Hearers.{flows_heard, is_heard, is_same_hea
 
 use crate::seated::Seated;
 use arrayvec::ArrayVec;
-use mg_core::{Core, Record, TERMINATIONS};
+use mg_core::{Core, Record, TERMINATION_LIMIT};
 use mg_topology::mask::{self, Mask, SEATS};
 
 /// A termination, and the talkers whose speech flows to it.
@@ -49,8 +49,8 @@ impl Hearer {
 }
 
 /// Returns the terminations of a core, in order of their numbers.
-pub(crate) fn hearers_of(core: &Core) -> ArrayVec<Hearer, TERMINATIONS>
-    ensures many { length result.items ≤ TERMINATIONS }
+pub(crate) fn hearers_of(core: &Core) -> ArrayVec<Hearer, TERMINATION_LIMIT>
+    ensures many { length result.items ≤ TERMINATION_LIMIT }
     ensures few { All (λ h. length (flows_heard (seats_of result.items) h) ≤ member_limit) result.items }
     ensures rising { AreRising result.items }
     ensures consistent { IsConsistent core.now.state.engine.rooms }

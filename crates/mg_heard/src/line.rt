@@ -36,16 +36,16 @@ pub(crate) const TIME_LIMIT: usize = 64;
 const NUMBER_LIMIT: usize = 20;
 
 /// The maximum length, in bytes, of `RTP/` and a number.
-const NAME_LIMIT: usize = 4 + NUMBER_LIMIT;
+const RTP_NAME_LIMIT: usize = 4 + NUMBER_LIMIT;
 
 /// The maximum length of a peer, in bytes: an address, a colon and a port.
 const PEER_LIMIT: usize = 21;
 
 /// The maximum length, in bytes, of a termination in a sentence: a name, and a number and a peer in brackets.
-const PARTY_LIMIT: usize = 5 + NAME_ROOM + NAME_LIMIT + PEER_LIMIT;
+const PARTY_LIMIT: usize = 5 + NAME_ROOM + RTP_NAME_LIMIT + PEER_LIMIT;
 
 /// The maximum length, in bytes, of a termination on a page: a name with escapes, and a number and a peer in brackets.
-const SHOWN_LIMIT: usize = 5 + ESCAPE_LIMIT * NAME_ROOM + NAME_LIMIT + PEER_LIMIT;
+const SHOWN_LIMIT: usize = 5 + ESCAPE_LIMIT * NAME_ROOM + RTP_NAME_LIMIT + PEER_LIMIT;
 
 /// The maximum length, in bytes, of a moment: a time, and a tick in brackets.
 const MOMENT_LIMIT: usize = 8 + TIME_LIMIT + NUMBER_LIMIT;
@@ -93,9 +93,9 @@ fn push_context(n: u32, out: &mut Bytes)
 /// Writes the number of a termination, such as `RTP/7`.
 #[tactic(auto, using(crate::proofs::LineLemmas::steps))]
 pub(crate) fn push_name(number: u32, out: &mut Bytes)
-    requires room { NAME_LIMIT ≤ out.old.room }
+    requires room { RTP_NAME_LIMIT ≤ out.old.room }
     ensures value { out.new ≡ appended out.old (rtp_name number) }
-    ensures short { length (rtp_name number) ≤ NAME_LIMIT }
+    ensures short { length (rtp_name number) ≤ RTP_NAME_LIMIT }
 {
     out.push(b"RTP/");
     push_number(u64::from(number), out);

@@ -8,7 +8,7 @@ use crate::hearer::Hearer;
 use crate::moment::Moment;
 use crate::open_interval::OpenInterval;
 use crate::open_intervals::{continue_front, keep_front};
-use mg_words::MEMBERS;
+use mg_words::MEMBER_LIMIT;
 use std::alloc::{AllocError, Global};
 use std::marker::Model;
 
@@ -38,7 +38,7 @@ impl Row {
         ensures value { IfOk result (λ x. x ≡ []) }
     {
         Ok(Row {
-            places: Vec::from_elem(alloc, OpenInterval::none(), MEMBERS)?,
+            places: Vec::from_elem(alloc, OpenInterval::none(), MEMBER_LIMIT)?,
             len: 0,
         })
     }

@@ -8,7 +8,7 @@ ghost use Rattle.mg_heard.specs.declared.listener_row.ListenerRow.{ListenerRow};
 use crate::hearer::Hearer;
 use crate::listener_row::ListenerRow;
 use crate::moment::Moment;
-use mg_core::TERMINATIONS;
+use mg_core::TERMINATION_LIMIT;
 use std::alloc::{AllocError, Global};
 use std::marker::Model;
 
@@ -37,8 +37,8 @@ impl Rows {
     pub(crate) fn new(alloc: Global) -> Result<Self, AllocError>
         ensures value { IfOk result (λ x. x ≡ []) }
     {
-        let mut places = Vec::with_capacity(alloc, TERMINATIONS)?;
-        for _ in 0..TERMINATIONS {
+        let mut places = Vec::with_capacity(alloc, TERMINATION_LIMIT)?;
+        for _ in 0..TERMINATION_LIMIT {
             places.push(ListenerRow::new(alloc)?)?;
         }
         Ok(Rows { places, len: 0 })

@@ -4,7 +4,7 @@ ghost use Rattle.mg_words.specs.Limits.{kept_limit};
 ghost use Rattle.mg_kept.specs.KeptReplies.{AreKept, KeptReply, kept_text, with_reply, without_range};
 
 use crate::entry::Entry;
-use mg_words::{KEPT_REPLIES, REPLY_LIMIT, SENDER_LIMIT};
+use mg_words::{KEPT_LIMIT, REPLY_LIMIT, SENDER_LIMIT};
 use std::alloc::{AllocError, Global};
 use std::marker::Model;
 
@@ -33,8 +33,8 @@ impl Kept {
     pub fn new(alloc: Global) -> Result<Self, AllocError>
         ensures value { IfOk result (λ kept. kept ≡ []) }
     {
-        let mut places = Vec::with_capacity(alloc, KEPT_REPLIES)?;
-        for _ in 0..KEPT_REPLIES {
+        let mut places = Vec::with_capacity(alloc, KEPT_LIMIT)?;
+        for _ in 0..KEPT_LIMIT {
             places.push(Entry::new(alloc)?)?;
         }
         Ok(Kept { places, len: 0 })
@@ -57,7 +57,7 @@ impl Kept {
     /// Returns the number of kept replies.
     pub fn len(&self) -> usize
         ensures value { result ≡ length self.now }
-        ensures few { result ≤ KEPT_REPLIES }
+        ensures few { result ≤ KEPT_LIMIT }
     {
         self.len
     }
@@ -88,7 +88,7 @@ impl Kept {
 
     /// Keeps a reply as the newest reply. Its request must not have a kept reply yet.
     ///
-    /// If [`KEPT_REPLIES`] replies are kept already, the oldest is dropped.
+    /// If [`KEPT_LIMIT`] replies are kept already, the oldest is dropped.
     pub fn keep(&mut self, sender: &[u8], number: u32, text: &[u8])
         requires is_new { kept_text self.old sender.now number ≡ None }
         requires short { length sender.now ≤ SENDER_LIMIT }
@@ -115,7 +115,7 @@ impl Kept {
         ensures value { self.new ≡ drop (length self.old + 1 - kept_limit) self.old }
         ensures room { length self.new < kept_limit }
     {
-        if self.len < KEPT_REPLIES {
+        if self.len < KEPT_LIMIT {
             return;
         }
         self.places.rotate_left(1);

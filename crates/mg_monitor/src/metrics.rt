@@ -4,7 +4,7 @@ use crate::page::Page;
 use crate::port_totals::PortTotals;
 use crate::sink::Sink;
 use arrayvec::ArrayString;
-use mg_core::{Config, Core, TERMINATIONS, Taken};
+use mg_core::{Config, Core, TERMINATION_LIMIT, Taken};
 use mg_serve::{Monitor, TickReport};
 use std::alloc::{AllocError, Global};
 use std::fmt::Write as _;
@@ -67,7 +67,7 @@ impl<'a, C: Clock, S: Sink + Drop> Metrics<'a, C, S> {
             longest: Duration::ZERO,
             control_strangers: 0,
             media_strangers: 0,
-            ports: vec![in alloc; PortTotals::new(); TERMINATIONS]?,
+            ports: vec![in alloc; PortTotals::new(); TERMINATION_LIMIT]?,
             text: Vec::with_capacity(alloc, TEXT_ROOM)?,
         })
     }

@@ -3,7 +3,7 @@ use crate::port_counts::PortCounts;
 use crate::stale_watch::StaleWatch;
 use arrayvec::ArrayVec;
 use mg_clock::Timing;
-use mg_core::{Core, Counts, Record, TERMINATIONS, Taken};
+use mg_core::{Core, Counts, Record, TERMINATION_LIMIT, Taken};
 use mg_fence::Fence;
 use mg_serve::{Monitor, TickReport};
 use mg_words::mode_talks;
@@ -48,7 +48,7 @@ impl<'a, E: Write> Reports<'a, E> {
             strangers: 0,
             journal: JournalWatch::new(),
             stale: StaleWatch::new(),
-            ports: vec![in alloc; PortCounts::new(); TERMINATIONS]?,
+            ports: vec![in alloc; PortCounts::new(); TERMINATION_LIMIT]?,
             writer,
         })
     }

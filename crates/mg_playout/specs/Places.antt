@@ -2,7 +2,7 @@
 use Rattle.std.specs.Prelude.{ℕ, ◌-◌, ◌≤◌, min, ℤ, Bool, List, ◌∷◌, ◌++◌, length, take, drop}
 use Rattle.std.specs.Prelude.{replicate, slice_index_or, Option, Some, None, is_none, All, IfSome}
 use Rattle.std.specs.List.{list_all}
-use Rattle.mg_words.specs.Limits.{least_depth, greatest_depth}
+use Rattle.mg_words.specs.Limits.{min_depth, max_depth}
 use Rattle.mg_g711.specs.Frame.{IsFrame}
 
 -- The places from 0 up to the depth. A frame is the list of its samples.
@@ -35,6 +35,6 @@ resized places depth = take depth places ++ empty_places (depth - length places)
 
 -- The invariant of the places of every play list: there are 2 to 16 places, and each frame is valid.
 pub record ArePlaces (places : FramePlaces) : Type 0 where
-  pub at_least : least_depth ≤ length places
-  pub at_most : length places ≤ greatest_depth
+  pub at_least : min_depth ≤ length places
+  pub at_most : length places ≤ max_depth
   pub frames : All (λ place. IfSome place IsFrame) places

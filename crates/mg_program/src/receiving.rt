@@ -5,12 +5,12 @@ ghost use Rattle.mg_ports.specs.Calls.{receipt_of};
 ghost use Rattle.mg_program.specs.Decisions.{all_ready, knows};
 ghost use Rattle.mg_program.specs.aids.Doing.{DoesCalls};
 
-use mg_core::{Peer, TERMINATIONS};
+use mg_core::{Peer, TERMINATION_LIMIT};
 use mg_host::Sockets;
 use mg_ports::PortFault;
 
 /// The maximum number of sockets that a session uses: one control socket, and one media socket for each termination.
-pub const SOCKETS: usize = TERMINATIONS + 1;
+pub const SOCKETS: usize = TERMINATION_LIMIT + 1;
 
 /// The sockets at which a datagram may be waiting.
 ///

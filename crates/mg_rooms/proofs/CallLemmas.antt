@@ -1,5 +1,5 @@
 -- Searches and writes in the tables, in terms of the registry that the tables represent.
-use Rattle.mg_rooms.proofs.Common.{◌≡◌, ℕ, ◌+◌, ◌<◌, ◌≤◌, ◌&&◌, ◌==◌, Bool, List, [], ◌∷◌, ◌++◌, option_and_then, vec_len, length, Option, Some, None, refl, sym, ◌∙◌, ap, arith, get_or, slice_get, find, option_map, is_none, not, Ok, Err, suc, subst, true, false, set, IfSome, list_any, position_from, range_with_len, slice_get_read, Record, Context, NoContextLeft, eqb-true, lt-ltb, le-ltb, le-leb, in_order, has_key, passes_at, change, with_members, without, new_context, CONTEXTS, MEMBERS, LAST_CONTEXT, registry_of, Registry, record_at, context_at, free_slot, free_room, free_seat, members_of}
+use Rattle.mg_rooms.proofs.Common.{◌≡◌, ℕ, ◌+◌, ◌<◌, ◌≤◌, ◌&&◌, ◌==◌, Bool, List, [], ◌∷◌, ◌++◌, option_and_then, vec_len, length, Option, Some, None, refl, sym, ◌∙◌, ap, arith, get_or, slice_get, find, option_map, is_none, not, Ok, Err, suc, subst, true, false, set, IfSome, list_any, position_from, range_with_len, slice_get_read, Record, Context, NoContextLeft, eqb-true, lt-ltb, le-ltb, le-leb, in_order, has_key, passes_at, change, with_members, without, new_context, CONTEXT_LIMIT, MEMBER_LIMIT, LAST_CONTEXT, registry_of, Registry, record_at, context_at, free_slot, free_room, free_seat, members_of}
 use Rattle.std.proofs.lemmas.Bool.Decides.{nat_tests}
 use Rattle.std.proofs.lemmas.Option.{get_or_from_slice_get, slice_get_past}
 use Rattle.mg_rooms.specs.declared.tables.Tables.TheInside.{Inside}
@@ -25,7 +25,7 @@ free_slot_is a o kept found =
 pub free_room_is : (a : Inside) (o : Option ℕ) → HasTables a → o ≡ position_from is_none 0 a.rooms.items →
     o ≡ free_room (registry_of a)
 free_room_is a o kept found =
-    found ∙ free-in_order (λ x. x.number) (λ x. x.room) a.next_context CONTEXTS a.rooms.items kept.rooms
+    found ∙ free-in_order (λ x. x.number) (λ x. x.room) a.next_context CONTEXT_LIMIT a.rooms.items kept.rooms
 
 find_free : (held : List Bool) (test : ℕ → Bool) (k : ℕ) →
     ((i j : ℕ) → j ≡ i + k → i < length held → get_or held i true ≡ test j) →
@@ -37,8 +37,8 @@ find_free (true ∷ held) test k h =
 find_free (false ∷ held) test k h = grind (arith, h 0 k)
 
 -- The first seat that is not held is the seat that `free_seat` returns.
-pub free_seat_is : (a : Inside) (c : ℕ) (held : List Bool) → length held ≡ MEMBERS
-    → ((seat : ℕ) → seat < MEMBERS → get_or held seat true ≡
+pub free_seat_is : (a : Inside) (c : ℕ) (held : List Bool) → length held ≡ MEMBER_LIMIT
+    → ((seat : ℕ) → seat < MEMBER_LIMIT → get_or held seat true ≡
     list_any (passes_at (λ r. (r.context == c) && (r.seat == seat))) a.slots.items)
     → position_from not 0 held ≡ free_seat (registry_of a) c
 free_seat_is a c held long h =
@@ -72,7 +72,7 @@ pub place_some : (a : Inside) (room : ℕ) → HasTables a → Some room ≡ pos
     new_context (registry_of a)
 place_some a room kept found le =
     let free = free_room_is a (Some room) kept found in
-    let empty = empty_place (λ x. x.number) (λ x. x.room) a.next_context CONTEXTS a.rooms.items room kept.rooms in
+    let empty = empty_place (λ x. x.number) (λ x. x.room) a.next_context CONTEXT_LIMIT a.rooms.items room kept.rooms in
     grind (arith, nat_tests, free, empty, length-in_order_room (λ x. x.number) a.rooms.items room)
 
 pub place_none : (a : Inside) → HasTables a → None ≡ position_from is_none 0 a.rooms.items →
@@ -125,7 +125,7 @@ slot_is_empty a s kept free = empty_place (λ r. r.number) (λ r. r.slot) a.next
 
 pub room_is_empty : (a : Inside) (s : ℕ) → HasTables a → free_room (registry_of a) ≡ Some s →
     (slice_get a.rooms.items s ≡ Some None) × (s < length a.rooms.items)
-room_is_empty a s kept free = empty_place (λ x. x.number) (λ x. x.room) a.next_context CONTEXTS a.rooms.items s
+room_is_empty a s kept free = empty_place (λ x. x.number) (λ x. x.room) a.next_context CONTEXT_LIMIT a.rooms.items s
     kept.rooms free
 
 -- These lemmas are about overwriting or removing the entry of a termination, which replaces or removes the termination.
@@ -194,10 +194,10 @@ context_change : (a : Inside) (n s : ℕ) (f : Context → Option Context) (old 
     ((x : Context) → IfSome (f x) (λ y. (y.number ≡ x.number) × (y.room ≡ x.room))) → HasTables a →
     Some s ≡ position_from (has_key (λ x. x.number) n) 0 a.rooms.items → old ≡ get_or a.rooms.items s old →
     new ≡ option_and_then f old
-    → AreRooms a.next_context CONTEXTS (set a.rooms.items s new) × (in_order (λ x. x.number) (set a.rooms.items s new)
+    → AreRooms a.next_context CONTEXT_LIMIT (set a.rooms.items s new) × (in_order (λ x. x.number) (set a.rooms.items s new)
     ≡ change (λ x. x.number) n f ((registry_of a).contexts))
 context_change a n s f old new keeps kept found was is =
-    let (x, at, table, change_is) = table_change (λ x. x.number) (λ x. x.room) a.next_context CONTEXTS a.rooms.items n s
+    let (x, at, table, change_is) = table_change (λ x. x.number) (λ x. x.room) a.next_context CONTEXT_LIMIT a.rooms.items n s
     f (λ x _. keeps-number x (f x) (keeps x)) (λ x _. keeps-room x (f x) (keeps x)) kept.rooms found in
     let old_is = was ∙ get_or_from_slice_get a.rooms.items s (Some x) old at in
     rw (is ∙ ap (option_and_then f) old_is) (table, change_is)
@@ -206,7 +206,7 @@ context_change a n s f old new keeps kept found was is =
 pub entered_there : (a : Inside) (c n s : ℕ) (old new : Option Context) → HasTables a →
     Some s ≡ position_from (has_key (λ x. x.number) c) 0 a.rooms.items → old ≡ get_or a.rooms.items s old →
     new ≡ entered_entry n old
-    → AreRooms a.next_context CONTEXTS (set a.rooms.items s new) ×
+    → AreRooms a.next_context CONTEXT_LIMIT (set a.rooms.items s new) ×
     (in_order (λ x. x.number) (set a.rooms.items s new) ≡
     change (λ x. x.number) c (with_last n) ((registry_of a).contexts))
 entered_there a c n s old new kept found was is =
@@ -216,7 +216,7 @@ entered_there a c n s old new kept found was is =
 pub left_there : (a : Inside) (c n s : ℕ) (old new : Option Context) → HasTables a →
     Some s ≡ position_from (has_key (λ x. x.number) c) 0 a.rooms.items → old ≡ get_or a.rooms.items s old →
     new ≡ left_entry n old
-    → AreRooms a.next_context CONTEXTS (set a.rooms.items s new) ×
+    → AreRooms a.next_context CONTEXT_LIMIT (set a.rooms.items s new) ×
     (in_order (λ x. x.number) (set a.rooms.items s new) ≡
     change (λ x. x.number) c (λ x. with_members x (without n x.members)) ((registry_of a).contexts))
 left_there a c n s old new kept found was is =
@@ -226,13 +226,13 @@ left_there a c n s old new kept found was is =
 -- If the context c of the registry is not full, neither is the context in the entry that was found for c.
 pub may_enter : (a : Inside) (c s : ℕ) (o : Option Context) →
     Some s ≡ position_from (has_key (λ x. x.number) c) 0 a.rooms.items → o ≡ get_or a.rooms.items s o →
-    length (members_of (context_at (registry_of a) c)) < MEMBERS → IfSome o (λ x. length x.members < MEMBERS)
+    length (members_of (context_at (registry_of a) c)) < MEMBER_LIMIT → IfSome o (λ x. length x.members < MEMBER_LIMIT)
 may_enter a c s o found was few =
     let is : o ≡ context_at (registry_of a) c =
     lookup_some (λ x. x.number) (λ x. x.room) c a.rooms.items s o found was in
     not_full o (rw is few)
   where
-    not_full : (p : Option Context) → length (members_of p) < MEMBERS → IfSome p (λ x. length x.members < MEMBERS)
+    not_full : (p : Option Context) → length (members_of p) < MEMBER_LIMIT → IfSome p (λ x. length x.members < MEMBER_LIMIT)
     not_full None lt = tt
     not_full (Some x) lt = lt
 
@@ -250,5 +250,5 @@ made_context_is a c room n v kept free number is = grind (arith, made_is a)
 pub at_room_is : (a : Inside) (s : ℕ) (o : Option Context) → HasTables a → s < length a.rooms.items →
     o ≡ get_or a.rooms.items s o → o ≡ find (λ x. x.room == s) ((registry_of a).contexts)
 at_room_is a s o kept lt at =
-    sym (find_spot (λ x. x.number) (λ x. x.room) a.next_context CONTEXTS a.rooms.items s kept.rooms ∙
+    sym (find_spot (λ x. x.number) (λ x. x.room) a.next_context CONTEXT_LIMIT a.rooms.items s kept.rooms ∙
     ap entry_at (slice_get_read a.rooms.items (length a.rooms.items) s o refl lt at))

@@ -16,7 +16,7 @@ pub use Rattle.mg_rooms.specs.declared.settings.Settings.{Settings}
 pub use Rattle.mg_rooms.specs.declared.target.Target.{Target}
 pub use Rattle.mg_words.specs.declared.error_number.ErrorNumber.{ErrorNumber}
 pub use Rattle.mg_words.specs.declared.error_number.ErrorNumber.TheVariants.{NoContextLeft}
-pub use Rattle.mg_words.specs.declared.limits.TheConstants.{CONTEXTS, LAST_CONTEXT, MEMBERS}
+pub use Rattle.mg_words.specs.declared.limits.TheConstants.{CONTEXT_LIMIT, LAST_CONTEXT, MEMBER_LIMIT}
 pub use Rattle.std.proofs.lemmas.Bool.{cases_Bool, eq-eqb, eqb-true, le-leb, le-ltb, lt-leb, lt-ltb, ltb-true, ne_eqb}
 pub use Rattle.std.proofs.lemmas.Option.{slice_get_read}
 pub use Rattle.std.specs.List.{AllByRecursion, count_by, list_any, position_from, range_with_len}

@@ -1,5 +1,5 @@
 -- Each successful command on a consistent registry results in a consistent registry.
-use Rattle.mg_rooms.proofs.Common.{◌≡◌, ℕ, ◌+◌, ◌<◌, ◌≤◌, ◌&&◌, Bool, cond, not, List, [], ◌∷◌, ◌++◌, length, Option, Some, None, refl, sym, ◌∙◌, ap, subst, arith, ◌==◌, find, option_and_then, IfSome, IsSome, count_by, list_any, range_with_len, eqb-true, eq-eqb, Record, Context, EntryPlace, Target, Limits, CONTEXTS, MEMBERS, LAST_CONTEXT, without, change, removed, left, with_members, Registry, record_at, context_at, members_at, members_of, IsTermination, IsContext, AreContexts, IsConsistent}
+use Rattle.mg_rooms.proofs.Common.{◌≡◌, ℕ, ◌+◌, ◌<◌, ◌≤◌, ◌&&◌, Bool, cond, not, List, [], ◌∷◌, ◌++◌, length, Option, Some, None, refl, sym, ◌∙◌, ap, subst, arith, ◌==◌, find, option_and_then, IfSome, IsSome, count_by, list_any, range_with_len, eqb-true, eq-eqb, Record, Context, EntryPlace, Target, Limits, CONTEXT_LIMIT, MEMBER_LIMIT, LAST_CONTEXT, without, change, removed, left, with_members, Registry, record_at, context_at, members_at, members_of, IsTermination, IsContext, AreContexts, IsConsistent}
 use Rattle.std.proofs.lemmas.Bool.Decides.{nat_tests}
 use Rattle.std.proofs.Common.{length-append}
 use Rattle.std.proofs.lemmas.Bool.{and_parts, and_from, not-true}
@@ -30,8 +30,8 @@ free_is test xs n k h =
 
 -- The seat that a termination takes is free.
 pub seat_free : (w : Registry) (c seat : ℕ) (made : Option ℕ) → IsConsistent w → IsOpen w c made →
-    HasSeat w c seat made → (seat < MEMBERS) × (count_by (λ r. (r.context == c) && (r.seat == seat)) w.terminations ≡ 0)
-seat_free w c seat None h opens has = free_is (λ r s. (r.context == c) && (r.seat == s)) w.terminations MEMBERS seat has
+    HasSeat w c seat made → (seat < MEMBER_LIMIT) × (count_by (λ r. (r.context == c) && (r.seat == seat)) w.terminations ≡ 0)
+seat_free w c seat None h opens has = free_is (λ r s. (r.context == c) && (r.seat == s)) w.terminations MEMBER_LIMIT seat has
 seat_free w c seat (Some room) h opens has =
     let none : members_at w c ≡ [] = ap members_of (find_next w c h opens.0) in
     let size : length (members_at w c) ≡ 0 = ap length none in
@@ -56,7 +56,7 @@ pub record HasEntered (w after : Registry) (c n : ℕ) : Type 0 where
   pub from : w.limits.first_context ≤ after.next_context
   pub last : after.next_context ≤ LAST_CONTEXT + 1
 
-joined-few : (limits : Limits) (next n : ℕ) (x : Context) → length x.members < MEMBERS → IsContext limits next x →
+joined-few : (limits : Limits) (next n : ℕ) (x : Context) → length x.members < MEMBER_LIMIT → IsContext limits next x →
     IsContext limits next (record x { members = x.members ++ (n ∷ []) })
 joined-few limits next n x few h =
     let size = length-append x.members (n ∷ []) in
@@ -67,7 +67,7 @@ pub entered_ok : (w : Registry) (place : EntryPlace) (n : ℕ) (made : Option �
     w.next_context ≤ LAST_CONTEXT + 1 → IsOpen w place.context made →
     HasEntered w (entered_at w place n made) place.context n
 entered_ok w place n (Some room) h from last (next, below, free) =
-    let (under, unheld) = free_is (λ x k. x.room == k) w.contexts CONTEXTS room free in
+    let (under, unheld) = free_is (λ x k. x.room == k) w.contexts CONTEXT_LIMIT room free in
     record {
       contexts = grind (arith, nat_tests, contexts-push w.limits w.next_context w.contexts);
       members = members-made w.limits w.next_context w.contexts
@@ -272,8 +272,8 @@ add_sound w after target d h a =
       below = omega arith;
       slot = below;
       seat = under;
-      min_depth = omega arith;
-      max_depth = omega arith;
+      deep_enough = omega arith;
+      not_too_deep = omega arith;
     } in
     rw a.is (after_entering (inserted w d) (entered (inserted w d) place d.number) place.context d.number h.limits came
     (terminations-push w.limits w.next_termination w.terminations d h.terminations

@@ -1,5 +1,5 @@
 -- The checks that a successful command has passed, and the place of its termination.
-use Rattle.mg_rooms.proofs.Common.{◌≡◌, ℕ, ◌<◌, ◌≤◌, ◌&&◌, Bool, true, false, not, length, Option, Some, None, Result, Ok, Err, refl, ◌∙◌, ap, subst, arith, ◌==◌, nat_lt, nat_le, IsSome, ok_or, unwrap_or, eqb-true, ltb-true, ne_eqb, Record, EntryPlace, Settings, Target, ErrorNumber, Limits, CONTEXTS, MEMBERS, LAST_CONTEXT, removed, left, Registry, record_at, context_at, members_at, free_slot, free_room, free_seat, named, member, new_slot}
+use Rattle.mg_rooms.proofs.Common.{◌≡◌, ℕ, ◌<◌, ◌≤◌, ◌&&◌, Bool, true, false, not, length, Option, Some, None, Result, Ok, Err, refl, ◌∙◌, ap, subst, arith, ◌==◌, nat_lt, nat_le, IsSome, ok_or, unwrap_or, eqb-true, ltb-true, ne_eqb, Record, EntryPlace, Settings, Target, ErrorNumber, Limits, CONTEXT_LIMIT, MEMBER_LIMIT, LAST_CONTEXT, removed, left, Registry, record_at, context_at, members_at, free_slot, free_room, free_seat, named, member, new_slot}
 use Rattle.std.proofs.lemmas.Bool.{and_parts, not-true, leb-true}
 use Rattle.mg_rooms.specs.declared.target.Target.TheVariants.{Null, New, Number}
 use Rattle.mg_words.specs.declared.limits.TheConstants.{LAST_TERMINATION, MIN_DEPTH, MAX_DEPTH}
@@ -59,8 +59,8 @@ pub record HasSettings (old r : Record) : Type 0 where
   pub context : r.context ≡ old.context
   pub slot : r.slot ≡ old.slot
   pub seat : r.seat ≡ old.seat
-  pub min_depth : MIN_DEPTH ≤ old.depth → MIN_DEPTH ≤ r.depth
-  pub max_depth : old.depth ≤ MAX_DEPTH → r.depth ≤ MAX_DEPTH
+  pub deep_enough : MIN_DEPTH ≤ old.depth → MIN_DEPTH ≤ r.depth
+  pub not_too_deep : old.depth ≤ MAX_DEPTH → r.depth ≤ MAX_DEPTH
 
 with_settings_ok : (limits : Limits) (settings : Settings) (old r : Record) →
     with_settings limits settings old ≡ Ok r → HasSettings old r
@@ -79,15 +79,15 @@ with_settings_ok limits settings old r h =
       context = refl;
       slot = refl;
       seat = refl;
-      min_depth = λ from. grind arith;
-      max_depth = λ to. grind arith;
+      deep_enough = λ from. grind arith;
+      not_too_deep = λ to. grind arith;
     })
 
 -- ## Places
 
 -- The context exists and is not full, or it can be created in a free room.
 abbrev pub IsOpen : Registry → ℕ → Option ℕ → Type 0
-IsOpen w c None = IsSome (context_at w c) × (length (members_at w c) < MEMBERS)
+IsOpen w c None = IsSome (context_at w c) × (length (members_at w c) < MEMBER_LIMIT)
 IsOpen w c (Some room) = (c ≡ w.next_context) × (w.next_context ≤ LAST_CONTEXT) × (free_room w ≡ Some room)
 
 -- The seat is the lowest free seat of the context, or 0 in a new context.
@@ -108,7 +108,7 @@ new_place_ok : (w : Registry) (target : Target) (u : Unit {0}) (place : EntryPla
     new_place w target ≡ Ok place → Enters w target place
 new_place_ok w Null u place may h = absurd (cc)
 new_place_ok w New u place may h =
-    let few = nat_lt (length w.contexts) CONTEXTS in
+    let few = nat_lt (length w.contexts) CONTEXT_LIMIT in
     let left = nat_le w.next_context LAST_CONTEXT in
     let (v, passed, later) = bind_ok (passes (few && left) refusals.NoContextLeft) _ place h in
     let (room, free, last) = bind_ok (ok_or (free_room w) refusals.NoContextLeft) _ place later in
@@ -125,14 +125,14 @@ new_place_ok w New u place may h =
       other = λ c below no. ne_eqb w.next_context c (λ same. omega arith);
     })
 new_place_ok w (Number d) u place may h =
-    let few = nat_lt (length (members_at w d)) MEMBERS in
+    let few = nat_lt (length (members_at w d)) MEMBER_LIMIT in
     let (v, passed, later) = bind_ok (passes few refusals.ContextFull) _ place h in
     let (seat, free, last) = bind_ok (ok_or (free_seat w d) refusals.ContextFull) _ place later in
     let is : place_at d seat None ≡ place = cc in
     subst (Enters w (Number d)) is (record {
       opens = (
         grind arith,
-        ltb-true (length (members_at w d)) MEMBERS (passes_ok few refusals.ContextFull v passed),
+        ltb-true (length (members_at w d)) MEMBER_LIMIT (passes_ok few refusals.ContextFull v passed),
       );
       free = ok_or_ok (free_seat w d) refusals.ContextFull seat free;
       other = λ c below no. no;

@@ -1,5 +1,5 @@
 -- A registry is consistent after its next numbers are raised, and after a termination is put back.
-use Rattle.mg_rooms.proofs.Common.{◌≡◌, ℕ, ◌+◌, ◌<◌, ◌≤◌, ◌&&◌, Bool, true, false, cond, List, [], ◌∷◌, ◌++◌, length, Option, Some, None, refl, sym, ◌∙◌, ap, subst, arith, inl, inr, ◌==◌, find, nat_le, nat_lt, is_none, IsSome, count_by, list_any, cases_Bool, eqb-true, eq-eqb, ltb-true, option_map, option_and_then, Record, Context, Limits, CONTEXTS, MEMBERS, LAST_CONTEXT, members_of, Registry, record_at, context_at, members_at, IsTermination, IsContext, AreContexts, IsConsistent}
+use Rattle.mg_rooms.proofs.Common.{◌≡◌, ℕ, ◌+◌, ◌<◌, ◌≤◌, ◌&&◌, Bool, true, false, cond, List, [], ◌∷◌, ◌++◌, length, Option, Some, None, refl, sym, ◌∙◌, ap, subst, arith, inl, inr, ◌==◌, find, nat_le, nat_lt, is_none, IsSome, count_by, list_any, cases_Bool, eqb-true, eq-eqb, ltb-true, option_map, option_and_then, Record, Context, Limits, CONTEXT_LIMIT, MEMBER_LIMIT, LAST_CONTEXT, members_of, Registry, record_at, context_at, members_at, IsTermination, IsContext, AreContexts, IsConsistent}
 use Rattle.std.proofs.lemmas.Bool.Decides.{nat_tests}
 use Rattle.std.proofs.lemmas.Bool.{and_parts, not-true, leb-true}
 use Rattle.mg_words.specs.declared.limits.TheConstants.{LAST_TERMINATION, MIN_DEPTH, MAX_DEPTH}
@@ -27,8 +27,8 @@ later_termination limits next later r le h = record {
   below = omega (arith, le, h.below);
   slot = h.slot;
   seat = h.seat;
-  min_depth = h.min_depth;
-  max_depth = h.max_depth;
+  deep_enough = h.deep_enough;
+  not_too_deep = h.not_too_deep;
 }
 
 later_context : (limits : Limits) (next later : ℕ) (x : Context) → next ≤ later → IsContext limits next x →
@@ -78,8 +78,8 @@ none_is (Some x) h = absurd (cc h)
 
 -- The context of a termination exists in the room and is not full, or it can be created there.
 abbrev pub IsOpenIn : Registry → ℕ → ℕ → Option Context → Type 0
-IsOpenIn w c room (Some x) = (x.room ≡ room) × (length x.members < MEMBERS)
-IsOpenIn w c room None = (w.limits.first_context ≤ c) × (c < w.next_context) × (room < CONTEXTS) ×
+IsOpenIn w c room (Some x) = (x.room ≡ room) × (length x.members < MEMBER_LIMIT)
+IsOpenIn w c room None = (w.limits.first_context ≤ c) × (c < w.next_context) × (room < CONTEXT_LIMIT) ×
     (find (λ x. x.room == room) w.contexts ≡ None)
 
 pub record MayRestore (w : Registry) (r : Record) (room : ℕ) : Type 0 where
@@ -94,28 +94,28 @@ within_is w r may =
     let a = and_parts (nat_le w.limits.first_termination r.number) _ may in
     let b = and_parts (nat_lt r.number w.next_termination) _ a.1 in
     let c = and_parts (nat_lt r.slot w.limits.slots) _ b.1 in
-    let d = and_parts (nat_lt r.seat MEMBERS) _ c.1 in
+    let d = and_parts (nat_lt r.seat MEMBER_LIMIT) _ c.1 in
     let e = and_parts (nat_le MIN_DEPTH r.depth) _ d.1 in
     record {
       from = leb-true w.limits.first_termination r.number a.0;
       below = ltb-true r.number w.next_termination b.0;
       slot = ltb-true r.slot w.limits.slots c.0;
-      seat = ltb-true r.seat MEMBERS d.0;
-      min_depth = leb-true MIN_DEPTH r.depth e.0;
-      max_depth = leb-true r.depth MAX_DEPTH e.1;
+      seat = ltb-true r.seat MEMBER_LIMIT d.0;
+      deep_enough = leb-true MIN_DEPTH r.depth e.0;
+      not_too_deep = leb-true r.depth MAX_DEPTH e.1;
     }
 
 open_is : (w : Registry) (c room : ℕ) (o : Option Context) → is_open_in w c room o ≡ true → IsOpenIn w c room o
 open_is w c room (Some x) may =
     let a = and_parts (x.room == room) _ may in
-    (eqb-true x.room room a.0, ltb-true (length x.members) MEMBERS a.1)
+    (eqb-true x.room room a.0, ltb-true (length x.members) MEMBER_LIMIT a.1)
 open_is w c room None may =
     let a = and_parts (nat_le w.limits.first_context c) _ may in
     let b = and_parts (nat_lt c w.next_context) _ a.1 in
-    let d = and_parts (nat_lt room CONTEXTS) _ b.1 in (
+    let d = and_parts (nat_lt room CONTEXT_LIMIT) _ b.1 in (
       leb-true w.limits.first_context c a.0,
       ltb-true c w.next_context b.0,
-      ltb-true room CONTEXTS d.0,
+      ltb-true room CONTEXT_LIMIT d.0,
       none_is (find (λ x. x.room == room) w.contexts) d.1,
     )
 
@@ -187,7 +187,7 @@ rejoined : (w : Registry) (c room n : ℕ) → AreContexts w.limits w.next_conte
     w.limits.first_context ≤ w.next_context → w.next_context ≤ LAST_CONTEXT + 1 → (o : Option Context) →
     context_at w c ≡ o → IsOpenIn w c room o → HasEntered w (rejoined_in w c room n o) c n
 rejoined w c room n h from last (Some x) found opens =
-    let few : length (members_at w c) < MEMBERS = rw found opens.1 in
+    let few : length (members_at w c) < MEMBER_LIMIT = rw found opens.1 in
     let some : IsSome (context_at w c) = rw found refl in
     entered_ok w (record { context = c; seat = 0; made = None }) n None h from last (some, few)
 rejoined w c room n h from last None found opens =

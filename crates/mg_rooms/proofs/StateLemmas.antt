@@ -1,5 +1,5 @@
 -- Lookups in a consistent registry.
-use Rattle.mg_rooms.proofs.Common.{◌≡◌, ℕ, ◌<◌, ◌≤◌, ◌&&◌, Bool, true, false, List, [], ◌∷◌, length, get_or, Option, Some, None, refl, sym, ◌∙◌, ap, arith, inl, inr, ◌==◌, ◌↔◌, find, IsSome, IsTrue, ◌⊎◌, Ok, Err, nat_lt, nat_le, ok_or, count_by, list_any, cases_Bool, eqb-true, eq-eqb, Record, Context, CONTEXTS, MEMBERS, LAST_CONTEXT, NoContextLeft, new_slot, new_context, EntryPlace, ErrorNumber, Registry, record_at, context_at, members_at, free_seat, free_room, free_slot, IsTermination, IsContext, IsConsistent}
+use Rattle.mg_rooms.proofs.Common.{◌≡◌, ℕ, ◌<◌, ◌≤◌, ◌&&◌, Bool, true, false, List, [], ◌∷◌, length, get_or, Option, Some, None, refl, sym, ◌∙◌, ap, arith, inl, inr, ◌==◌, ◌↔◌, find, IsSome, IsTrue, ◌⊎◌, Ok, Err, nat_lt, nat_le, ok_or, count_by, list_any, cases_Bool, eqb-true, eq-eqb, Record, Context, CONTEXT_LIMIT, MEMBER_LIMIT, LAST_CONTEXT, NoContextLeft, new_slot, new_context, EntryPlace, ErrorNumber, Registry, record_at, context_at, members_at, free_seat, free_room, free_slot, IsTermination, IsContext, IsConsistent}
 use Rattle.std.proofs.lemmas.Bool.Decides.{nat_tests}
 use Rattle.std.proofs.lemmas.Bool.{and_parts, and_from, cases_lt}
 use Rattle.mg_words.specs.declared.limits.TheConstants.{LAST_TERMINATION}
@@ -121,13 +121,13 @@ is_in_a_context w n r h found =
     at None is many more = grind arith
     at (Some x) is many more = rw is refl
 
-pub seat_is_free : (w : Registry) (c : ℕ) → IsConsistent w → length (members_at w c) < MEMBERS → IsSome (free_seat w c)
+pub seat_is_free : (w : Registry) (c : ℕ) → IsConsistent w → length (members_at w c) < MEMBER_LIMIT → IsSome (free_seat w c)
 seat_is_free w c h few =
     let many = h.agree.as_many c in
-    seat_left (λ r. r.context == c) (λ r. r.seat) MEMBERS w.terminations (omega arith)
+    seat_left (λ r. r.context == c) (λ r. r.seat) MEMBER_LIMIT w.terminations (omega arith)
 
-pub room_is_free : (w : Registry) → IsConsistent w → length w.contexts < CONTEXTS → IsSome (free_room w)
-room_is_free w h few = seat_left (λ _. true) (λ x. x.room) CONTEXTS w.contexts
+pub room_is_free : (w : Registry) → IsConsistent w → length w.contexts < CONTEXT_LIMIT → IsSome (free_room w)
+room_is_free w h few = seat_left (λ _. true) (λ x. x.room) CONTEXT_LIMIT w.contexts
     (let all = all_counted (λ (_ : Context). true) w.contexts (λ x. refl) in omega arith)
 
 -- ## Exhausted resources
@@ -144,23 +144,23 @@ used_up true (Some x) f e some told = absurd (cc)
 used_up false o f e some told = refl
 
 pub seat_used_up : (w : Registry) (c : ℕ) → IsConsistent w →
-    (new_seat w c ≡ Err ContextFull) ↔ (MEMBERS ≤ length (members_at w c))
+    (new_seat w c ≡ Err ContextFull) ↔ (MEMBER_LIMIT ≤ length (members_at w c))
 seat_used_up w c h = (told, λ full. grind (arith, nat_tests))
   where
-    told : new_seat w c ≡ Err ContextFull → MEMBERS ≤ length (members_at w c)
-    told e = elim (cases_lt (length (members_at w c)) MEMBERS) [
-      | inl few ↦ let none = used_up (nat_lt (length (members_at w c)) MEMBERS) (free_seat w c)
+    told : new_seat w c ≡ Err ContextFull → MEMBER_LIMIT ≤ length (members_at w c)
+    told e = elim (cases_lt (length (members_at w c)) MEMBER_LIMIT) [
+      | inl few ↦ let none = used_up (nat_lt (length (members_at w c)) MEMBER_LIMIT) (free_seat w c)
           (λ s. record { context = c; seat = s; made = None }) ContextFull (seat_is_free w c h few) e in grind arith
       | inr many ↦ many
     ]
 
 pub context_used_up : (w : Registry) → IsConsistent w →
-    (new_context w ≡ Err NoContextLeft) ↔ ((CONTEXTS ≤ length w.contexts) ⊎ (LAST_CONTEXT < w.next_context))
+    (new_context w ≡ Err NoContextLeft) ↔ ((CONTEXT_LIMIT ≤ length w.contexts) ⊎ (LAST_CONTEXT < w.next_context))
 context_used_up w h = (told, λ why. grind (arith, nat_tests))
   where
-    told : new_context w ≡ Err NoContextLeft → (CONTEXTS ≤ length w.contexts) ⊎ (LAST_CONTEXT < w.next_context)
-    told e = elim (cases_lt (length w.contexts) CONTEXTS) [
-      | inl few ↦ let none = used_up (nat_lt (length w.contexts) CONTEXTS && nat_le w.next_context LAST_CONTEXT)
+    told : new_context w ≡ Err NoContextLeft → (CONTEXT_LIMIT ≤ length w.contexts) ⊎ (LAST_CONTEXT < w.next_context)
+    told e = elim (cases_lt (length w.contexts) CONTEXT_LIMIT) [
+      | inl few ↦ let none = used_up (nat_lt (length w.contexts) CONTEXT_LIMIT && nat_le w.next_context LAST_CONTEXT)
           (free_room w) (λ r. record { context = w.next_context; seat = 0; made = Some r }) NoContextLeft
           (room_is_free w h few) e in grind arith
       | inr many ↦ inl many

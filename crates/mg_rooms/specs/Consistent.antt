@@ -5,7 +5,7 @@ use Rattle.mg_rooms.specs.declared.record.Record.{Record}
 use Rattle.mg_rooms.specs.declared.context.Context.{Context}
 use Rattle.mg_rooms.specs.declared.limits.Limits.{Limits}
 use Rattle.mg_rooms.specs.Limits.{AreValidLimits}
-use Rattle.mg_words.specs.Limits.{least_depth, greatest_depth}
+use Rattle.mg_words.specs.Limits.{min_depth, max_depth}
 use Rattle.mg_words.specs.Limits.{context_limit, member_limit, last_termination, last_context}
 use Rattle.mg_rooms.specs.Registry.{Registry, members_at}
 
@@ -15,8 +15,8 @@ pub record IsTermination (limits : Limits) (next : ℕ) (r : Record) : Type 0 wh
   pub below : r.number < next
   pub slot : r.slot < limits.slots
   pub seat : r.seat < member_limit
-  pub min_depth : least_depth ≤ r.depth
-  pub max_depth : r.depth ≤ greatest_depth
+  pub deep_enough : min_depth ≤ r.depth
+  pub not_too_deep : r.depth ≤ max_depth
 
 -- Each termination is within the limits, and the terminations are in ascending order of number. No two terminations
 -- have the same number, the same slot, or the same seat in a context.

@@ -6,7 +6,7 @@ use Rattle.mg_sdp.specs.declared.offer.Offer.{Offer}
 use Rattle.mg_sdp.specs.declared.chosen.Chosen.{Chosen}
 use Rattle.mg_words.specs.declared.error_number.ErrorNumber.{ErrorNumber}
 use Rattle.mg_words.specs.declared.error_number.ErrorNumber.TheVariants.{NoMedia}
-use Rattle.mg_words.specs.Limits.{least_depth, greatest_depth}
+use Rattle.mg_words.specs.Limits.{min_depth, max_depth}
 use Rattle.mg_rooms.specs.declared.media_setting.MediaSetting.{MediaSetting}
 use Rattle.mg_rooms.specs.declared.media_setting.MediaSetting.TheVariants.{Clear, Offer as Offered}
 use Rattle.mg_rooms.specs.declared.media_setting.MediaSetting.TheVariants.{Unreadable}
@@ -15,7 +15,7 @@ use Rattle.mg_rooms.specs.declared.media_setting.MediaSetting.TheVariants.{Unrea
 -- requested.
 abbrev pub depth_after : Option ℕ → ℕ → ℕ
 depth_after None old = old
-depth_after (Some depth) old = min (max depth least_depth) greatest_depth
+depth_after (Some depth) old = min (max depth min_depth) max_depth
 
 -- The setting after an offer: the alternative that is chosen. If there are alternatives, but none can be chosen, the
 -- command is refused. An offer without alternatives is blank, and removes the old setting.

@@ -13,7 +13,7 @@ use crate::members::Members;
 use crate::place::EntryPlace;
 use crate::record::Record;
 use crate::tables::Tables;
-use mg_words::MEMBERS;
+use mg_words::MEMBER_LIMIT;
 
 impl Tables {
     /// Returns the number of the next termination.
@@ -77,7 +77,7 @@ impl Tables {
 
     /// Adds a termination to an existing context.
     pub(crate) fn join(&mut self, context: u32, number: u32)
-        requires room { length (members_at self.old context) < MEMBERS }
+        requires room { length (members_at self.old context) < MEMBER_LIMIT }
         ensures value { self.new ≡ joined self.old context number }
     {
         if let Some(room) = room_of(&self.rooms, self.room_hints.place(context), context) {

@@ -13,7 +13,7 @@ use crate::record::Record;
 use crate::settings::Settings;
 use crate::tables::Tables;
 use crate::target::Target;
-use mg_words::{ErrorNumber, LAST_CONTEXT, LAST_TERMINATION, MEMBERS};
+use mg_words::{ErrorNumber, LAST_CONTEXT, LAST_TERMINATION, MEMBER_LIMIT};
 
 impl Target {
     /// Returns whether the target is the context with this number.
@@ -101,7 +101,7 @@ impl Tables {
         ensures value { result ≡ new_seat self.now context }
         ensures can { IfOk result (CanEnter self.now) }
     {
-        if self.members(context).len() >= MEMBERS {
+        if self.members(context).len() >= MEMBER_LIMIT {
             return Err(ErrorNumber::ContextFull);
         }
         let seat = self.free_seat(context).ok_or(ErrorNumber::ContextFull)?;

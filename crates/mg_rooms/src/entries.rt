@@ -8,7 +8,7 @@ ghost use Rattle.mg_rooms.specs.aids.Entries.{left_entry, entered_entry};
 
 use crate::context::Context;
 use crate::record::Record;
-use mg_words::MEMBERS;
+use mg_words::MEMBER_LIMIT;
 use std::alloc::{AllocError, Global};
 
 /// Creates a table of empty entries. Fails only if an allocation fails.
@@ -77,26 +77,26 @@ pub fn room_of(rooms: &[Option<Context>], hint: u8, number: u32) -> Option<usize
 }
 
 /// Marks the seat of a slot's termination as held, if the termination is in the context.
-fn note_seat(held: &mut [bool; MEMBERS], context: u32, entry: &Option<Record>)
+fn note_seat(held: &mut [bool; MEMBER_LIMIT], context: u32, entry: &Option<Record>)
     ensures long { length held.new ≡ length held.old }
-    ensures value { (seat : ℕ) → seat < MEMBERS → slice_index_or held.new seat true
+    ensures value { (seat : ℕ) → seat < MEMBER_LIMIT → slice_index_or held.new seat true
         ≡ (slice_index_or held.old seat true || passes_at (λ r. (r.context == context) && (r.seat == seat)) entry.now) }
 {
     if let Some(record) = entry {
         let seat = usize::from(record.seat);
-        if record.context == context && seat < MEMBERS {
+        if record.context == context && seat < MEMBER_LIMIT {
             held[seat] = true;
         }
     }
 }
 
 /// Returns which seats of the context are held.
-pub fn held_seats(slots: &[Option<Record>], context: u32) -> [bool; MEMBERS]
-    ensures long { length result ≡ MEMBERS }
-    ensures value { (seat : ℕ) → seat < MEMBERS → slice_index_or result seat true
+pub fn held_seats(slots: &[Option<Record>], context: u32) -> [bool; MEMBER_LIMIT]
+    ensures long { length result ≡ MEMBER_LIMIT }
+    ensures value { (seat : ℕ) → seat < MEMBER_LIMIT → slice_index_or result seat true
         ≡ list_any (passes_at (λ r. (r.context == context) && (r.seat == seat))) slots.now }
 {
-    let mut held = [false; MEMBERS];
+    let mut held = [false; MEMBER_LIMIT];
     for entry in slots {
         note_seat(&mut held, context, entry);
     }
@@ -104,16 +104,16 @@ pub fn held_seats(slots: &[Option<Record>], context: u32) -> [bool; MEMBERS]
 }
 
 /// Returns the first free seat, or `None` if every seat is held.
-pub fn first_free(held: &[bool; MEMBERS]) -> Option<usize>
+pub fn first_free(held: &[bool; MEMBER_LIMIT]) -> Option<usize>
     ensures value { result ≡ position_from not 0 held.now }
-    ensures in_range { IfSome result (λ seat. seat < MEMBERS) }
+    ensures in_range { IfSome result (λ seat. seat < MEMBER_LIMIT) }
 {
     held.iter().position(|is_held| !*is_held)
 }
 
 /// Adds a termination to the context in a room, if the room has a context.
 pub fn enter_entry(entry: &mut Option<Context>, number: u32)
-    requires room { IfSome entry.old (λ x. length x.members < MEMBERS) }
+    requires room { IfSome entry.old (λ x. length x.members < MEMBER_LIMIT) }
     ensures value { entry.new ≡ entered_entry number entry.old }
 {
     if let Some(context) = entry {

@@ -54,7 +54,7 @@ pub use limits::Limits;
 pub use media_setting::MediaSetting;
 pub use member::Member;
 pub use mg_words::{
-    ErrorNumber, LAST_CONTEXT, MEMBERS, Mode, TERMINATIONS, mode_listens, mode_talks,
+    ErrorNumber, LAST_CONTEXT, MEMBER_LIMIT, Mode, TERMINATION_LIMIT, mode_listens, mode_talks,
 };
 pub use moved::Moved;
 pub use record::Record;

@@ -1,7 +1,7 @@
 ghost use Rattle.std.specs.Prelude.{◌≡◌, ◌<◌, ◌↔◌, IsTrue};
 ghost use Rattle.mg_rooms.specs.Limits.{slot_port, slot_at, AreValidLimits, HasPool, HasFirstNumbers};
 
-use mg_words::{LAST_CONTEXT, TERMINATIONS};
+use mg_words::{LAST_CONTEXT, TERMINATION_LIMIT};
 
 /// The limits on a gateway's terminations and contexts.
 #[derive(Clone, Copy, Debug, PartialEq, Eq)]
@@ -10,7 +10,7 @@ pub struct Limits {
     pub address: [u8; 4],
     /// The UDP port of slot 0. It must be even. Slot s has the port `base_port + 2 * s`.
     pub base_port: u16,
-    /// The number of slots, from 1 to [`TERMINATIONS`].
+    /// The number of slots, from 1 to [`TERMINATION_LIMIT`].
     pub slots: u16,
     /// The number of the first termination.
     pub first_termination: u32,
@@ -21,7 +21,7 @@ pub struct Limits {
 impl Limits {
     /// Returns whether a gateway can start with these limits.
     ///
-    /// There must be 1 to [`TERMINATIONS`] slots with even UDP ports. The numbers of the first termination and the
+    /// There must be 1 to [`TERMINATION_LIMIT`] slots with even UDP ports. The numbers of the first termination and the
     /// first context must be in range.
     pub fn is_valid(&self) -> bool
         ensures value { IsTrue result ↔ AreValidLimits self.now }
@@ -54,7 +54,7 @@ impl Limits {
     fn has_pool(&self) -> bool
         ensures value { IsTrue result ↔ HasPool self.now }
     {
-        if self.slots == 0 || usize::from(self.slots) > TERMINATIONS {
+        if self.slots == 0 || usize::from(self.slots) > TERMINATION_LIMIT {
             return false;
         }
         let last = u32::from(self.base_port) + 2 * (u32::from(self.slots) - 1);

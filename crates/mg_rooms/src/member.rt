@@ -5,6 +5,6 @@ use crate::record::Record;
 pub struct Member {
     /// The termination.
     pub record: Record,
-    /// The room of its context, below [`CONTEXTS`](crate::CONTEXTS).
+    /// The room of its context, below [`CONTEXT_LIMIT`](crate::CONTEXT_LIMIT).
     pub room: u8,
 }

@@ -3,13 +3,13 @@ ghost use Rattle.std.specs.List.{position_from};
 ghost use Rattle.mg_rooms.specs.Members.{without};
 
 use arrayvec::ArrayVec;
-use mg_words::MEMBERS;
+use mg_words::MEMBER_LIMIT;
 use std::marker::Model;
 
-/// The numbers of a context's members in order of entry, at most [`MEMBERS`].
+/// The numbers of a context's members in order of entry, at most [`MEMBER_LIMIT`].
 #[derive(Drop)]
 pub struct Members {
-    numbers: ArrayVec<u32, MEMBERS>,
+    numbers: ArrayVec<u32, MEMBER_LIMIT>,
 }
 
 impl Model for Members {
@@ -32,7 +32,7 @@ impl Members {
 
     pub(crate) fn as_slice(&self) -> &[u32]
         ensures value { result.now ≡ self.now }
-        ensures few { length result.now ≤ MEMBERS }
+        ensures few { length result.now ≤ MEMBER_LIMIT }
     {
         self.numbers.as_slice()
     }
@@ -45,7 +45,7 @@ impl Members {
 
     /// Adds a member after the others.
     pub(crate) fn enter(&mut self, number: u32)
-        requires room { length self.old < MEMBERS }
+        requires room { length self.old < MEMBER_LIMIT }
         ensures value { self.new ≡ self.old ++ number ∷ [] }
     {
         self.numbers.push(number);

@@ -14,7 +14,8 @@ pub struct Record {
     pub context: u32,
     /// The slot that the termination holds until it is subtracted. It is below the gateway's number of slots.
     pub slot: u8,
-    /// The seat that the termination holds while it is in this context. It is below [`MEMBERS`](crate::MEMBERS).
+    /// The seat that the termination holds while it is in this context. It is below
+    /// [`MEMBER_LIMIT`](crate::MEMBER_LIMIT).
     pub seat: u8,
     /// The mode of its stream.
     pub mode: Mode,

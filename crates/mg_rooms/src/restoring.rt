@@ -11,7 +11,7 @@ use crate::entries::held_seats;
 use crate::members::Members;
 use crate::record::Record;
 use crate::tables::Tables;
-use mg_words::{CONTEXTS, LAST_CONTEXT, LAST_TERMINATION, MAX_DEPTH, MEMBERS, MIN_DEPTH};
+use mg_words::{CONTEXT_LIMIT, LAST_CONTEXT, LAST_TERMINATION, MAX_DEPTH, MEMBER_LIMIT, MIN_DEPTH};
 
 impl Tables {
     /// Raises the numbers of the next termination and the next context. Returns false, and changes nothing, if either is
@@ -72,14 +72,14 @@ impl Tables {
         self.limits.first_termination <= termination.number
             && u64::from(termination.number) < self.next_termination
             && u16::from(termination.slot) < self.limits.slots
-            && usize::from(termination.seat) < MEMBERS
+            && usize::from(termination.seat) < MEMBER_LIMIT
             && MIN_DEPTH <= usize::from(termination.depth)
             && usize::from(termination.depth) <= MAX_DEPTH
     }
 
     /// Returns whether no termination has the number, the slot, or the seat in this context.
     fn is_free(&self, termination: &Record) -> bool
-        requires seat { termination.now.seat < MEMBERS }
+        requires seat { termination.now.seat < MEMBER_LIMIT }
         ensures value { result ≡ is_free self.now termination.now }
     {
         self.record(termination.number).is_none()
@@ -89,7 +89,7 @@ impl Tables {
 
     /// Returns whether a termination holds the seat in the context.
     fn has_seat(&self, context: u32, seat: u8) -> bool
-        requires seat { seat < MEMBERS }
+        requires seat { seat < MEMBER_LIMIT }
         ensures value { result ≡ list_any (λ x. (x.context == context) && (x.seat == seat)) self.now.terminations }
     {
         let held = held_seats(&self.slots, context);
@@ -101,7 +101,7 @@ impl Tables {
         ensures value { result ≡ is_open_in self.now context room (context_at self.now context) }
     {
         match self.room(context) {
-            Some(found) => found == room && self.members(context).len() < MEMBERS,
+            Some(found) => found == room && self.members(context).len() < MEMBER_LIMIT,
             None => self.was_assigned(context) && self.is_empty_room(room),
         }
     }
@@ -116,7 +116,7 @@ impl Tables {
         ensures value { result ≡
             (nat_lt room context_limit && is_none (find (λ x. x.room == room) self.now.contexts)) }
     {
-        usize::from(room) < CONTEXTS && self.rooms[usize::from(room)].is_none()
+        usize::from(room) < CONTEXT_LIMIT && self.rooms[usize::from(room)].is_none()
     }
 
     /// Adds a termination in its slot, which must be free. The next number is unchanged.

@@ -15,7 +15,7 @@ use crate::settings::Settings;
 use crate::tables::Tables;
 use crate::target::Target;
 use arrayvec::ArrayVec;
-use mg_words::{CONTEXTS, ErrorNumber, MEMBERS};
+use mg_words::{CONTEXT_LIMIT, ErrorNumber, MEMBER_LIMIT};
 use std::alloc::{AllocError, Global};
 use std::marker::Model;
 
@@ -75,12 +75,13 @@ impl Rooms {
     /// Returns the numbers of a context's members in order of entry, or none if the context does not exist.
     pub fn members(&self, context: u32) -> &[u32]
         ensures value { result.now ≡ members_at self.now context }
-        ensures few { length result.now ≤ MEMBERS }
+        ensures few { length result.now ≤ MEMBER_LIMIT }
     {
         self.tables.members(context)
     }
 
-    /// Returns the room of a context, below [`CONTEXTS`](crate::CONTEXTS), or `None` if the context doesn't exist.
+    /// Returns the room of a context, below [`CONTEXT_LIMIT`](crate::CONTEXT_LIMIT), or `None` if the context doesn't
+    /// exist.
     ///
     /// No other existing context has the same room.
     pub fn room(&self, context: u32) -> Option<u8>
@@ -90,7 +91,7 @@ impl Rooms {
     }
 
     /// Returns the numbers of all contexts, in ascending order.
-    pub fn contexts(&self) -> ArrayVec<u32, CONTEXTS>
+    pub fn contexts(&self) -> ArrayVec<u32, CONTEXT_LIMIT>
         ensures value { result.items ≡ map (λ x. x.number) self.now.contexts }
     {
         self.tables.contexts()

@@ -8,7 +8,7 @@ use crate::hints::Hints;
 use crate::limits::Limits;
 use crate::member::Member;
 use crate::record::Record;
-use mg_words::{CONTEXTS, MEMBERS};
+use mg_words::{CONTEXT_LIMIT, MEMBER_LIMIT};
 use std::alloc::{AllocError, Global};
 use std::marker::Model;
 
@@ -47,7 +47,7 @@ impl Tables {
         ensures value { IfOk result (λ tables. tables ≡ start_of limits) }
     {
         let slots = empty_table(alloc, usize::from(limits.slots))?;
-        let rooms = empty_table(alloc, CONTEXTS)?;
+        let rooms = empty_table(alloc, CONTEXT_LIMIT)?;
         Ok(Tables {
             limits,
             slots,
@@ -71,7 +71,7 @@ impl Tables {
     /// Returns the members of a context in order of entry, or none if the context does not exist.
     pub(crate) fn members(&self, context: u32) -> &[u32]
         ensures value { result.now ≡ members_at self.now context }
-        ensures few { length result.now ≤ MEMBERS }
+        ensures few { length result.now ≤ MEMBER_LIMIT }
     {
         match room_of(&self.rooms, self.room_hints.place(context), context) {
             Some(room) => match &self.rooms[room] {

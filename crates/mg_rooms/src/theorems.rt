@@ -3,7 +3,7 @@
 //! The functions do nothing: their contracts are the theorems.
 
 ghost use Rattle.std.specs.Prelude.{◌≡◌, ℕ, ◌<◌, ◌≤◌, ◌↔◌, ◌⊎◌, None, Ok, Err, IsSome, length};
-ghost use Rattle.mg_words.specs.declared.limits.TheConstants.{CONTEXTS, MEMBERS, LAST_TERMINATION, LAST_CONTEXT};
+ghost use Rattle.mg_words.specs.declared.limits.TheConstants.{CONTEXT_LIMIT, MEMBER_LIMIT, LAST_TERMINATION, LAST_CONTEXT};
 ghost use Rattle.mg_words.specs.declared.error_number.ErrorNumber.TheVariants.{ContextFull, NoContextLeft, NoTerminationLeft};
 ghost use Rattle.mg_rooms.specs.declared.limits.Limits.{Limits};
 ghost use Rattle.mg_rooms.specs.declared.record.Record.{Record};
@@ -18,9 +18,9 @@ ghost use Rattle.mg_rooms.specs.Consistent.{IsConsistent};
 ///
 /// A command is refused with "context full" or "no context left" only if that is true.
 pub fn tables_that_are_not_full_have_a_free_place()
-    ensures seat { (w : Registry) (c : ℕ) → IsConsistent w → length (members_at w c) < MEMBERS →
+    ensures seat { (w : Registry) (c : ℕ) → IsConsistent w → length (members_at w c) < MEMBER_LIMIT →
         IsSome (free_seat w c) }
-    ensures room { (w : Registry) → IsConsistent w → length w.contexts < CONTEXTS → IsSome (free_room w) }
+    ensures room { (w : Registry) → IsConsistent w → length w.contexts < CONTEXT_LIMIT → IsSome (free_room w) }
 {}
 
 /// A resource is reported as exhausted exactly when it is exhausted.
@@ -30,9 +30,9 @@ pub fn exhausted_resources_are_refused()
     ensures slot { (w : Registry) → (new_slot w ≡ Err NoTerminationLeft) ↔
         ((free_slot w ≡ None) ⊎ (LAST_TERMINATION < w.next_termination)) }
     ensures seat { (w : Registry) (c : ℕ) → IsConsistent w → (new_seat w c ≡ Err ContextFull) ↔
-        (MEMBERS ≤ length (members_at w c)) }
+        (MEMBER_LIMIT ≤ length (members_at w c)) }
     ensures context { (w : Registry) → IsConsistent w → (new_context w ≡ Err NoContextLeft) ↔
-        ((CONTEXTS ≤ length w.contexts) ⊎ (LAST_CONTEXT < w.next_context)) }
+        ((CONTEXT_LIMIT ≤ length w.contexts) ⊎ (LAST_CONTEXT < w.next_context)) }
 {}
 
 /// A new gateway is consistent, and every command preserves consistency. So a gateway is consistent after any sequence

@@ -7,7 +7,7 @@ ghost use Rattle.mg_sums.specs.Sums.{AreOfRoom, is_joined, left_out_by};
 use crate::equality::assert_equal;
 use mg_g711::{Frame, Law, decode_frame};
 use mg_sums::ranges::assert_sample_range;
-use mg_sums::{Room, Row, Sums, TERMINATIONS, kernels};
+use mg_sums::{Room, Row, Sums, TERMINATION_LIMIT, kernels};
 use std::process::Abort;
 use std::test::Fail;
 
@@ -245,7 +245,7 @@ fn mix(sums: &mut Sums, room: Room, base: Option<Row>, minus: &[Row]) -> Result<
 
 /// A row that is not joined to a room keeps its frame, which does not count toward any total.
 fn keep_a_row_that_is_joined_nowhere(rt: &impl Abort, sums: &mut Sums) {
-    let row = Row::new((TERMINATIONS - 1) as u8);
+    let row = Row::new((TERMINATION_LIMIT - 1) as u8);
     sums.set_frame(row, Some(&[5; 160]));
     assert!(rt; sums.room(row).is_none());
     assert_equal(rt, *sums.frame(row), [5; 160]);

@@ -3,7 +3,7 @@
 //! Each termination has a [`Row`], numbered by its slot, and each context has a [`Room`]. A [`Sums`] keeps the frame of
 //! each row and the room that the row is joined to, if any. A row is joined while its termination talks. For each room,
 //! the [`Sums`] keeps the sum of the joined frames, sample by sample, as 160 numbers of 32 bits. These totals don't
-//! need saturation: at most [`TERMINATIONS`] 16-bit samples are added.
+//! need saturation: at most [`TERMINATION_LIMIT`] 16-bit samples are added.
 //!
 //! So a listener's mix doesn't need a sum over all talkers. It is the room's total minus the rows that the listener
 //! must not hear: the listener's own row (the base) and the silenced rows. The mix is saturated once, to 16 bits.
@@ -37,7 +37,7 @@ mod rows;
 mod sums;
 pub mod theorems;
 
-pub use mg_words::TERMINATIONS;
+pub use mg_words::TERMINATION_LIMIT;
 pub use room::Room;
 pub use row::Row;
 pub use sums::Sums;

@@ -3,7 +3,8 @@ ghost use Rattle.mg_words.specs.Limits.{context_limit};
 
 use std::marker::Model;
 
-/// The room of a context. In contracts, it appears as its number, which is below [`CONTEXTS`](crate::CONTEXTS).
+/// The room of a context. In contracts, it appears as its number, which is below
+/// [`CONTEXT_LIMIT`](crate::CONTEXT_LIMIT).
 #[derive(Clone, Copy, Debug, PartialEq, Eq, Hash)]
 pub struct Room {
     number: u8,

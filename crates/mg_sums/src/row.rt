@@ -4,7 +4,7 @@ ghost use Rattle.mg_words.specs.Limits.{termination_limit};
 use std::marker::Model;
 
 /// The row of a termination. In contracts, it appears as the number of its slot, which is below
-/// [`TERMINATIONS`](crate::TERMINATIONS).
+/// [`TERMINATION_LIMIT`](crate::TERMINATION_LIMIT).
 #[derive(Clone, Copy, Debug, PartialEq, Eq, Hash)]
 pub struct Row {
     number: u8,

@@ -11,7 +11,7 @@ use crate::room::Room;
 use crate::row::Row;
 use crate::rows::{FrameRow, SumRow};
 use mg_g711::Frame;
-use mg_words::{CONTEXTS, TERMINATIONS};
+use mg_words::{CONTEXT_LIMIT, TERMINATION_LIMIT};
 use std::alloc::{AllocError, Global};
 use std::marker::Model;
 
@@ -22,7 +22,7 @@ use std::marker::Model;
 #[derive(Drop)]
 pub struct Sums {
     frames: Vec<FrameRow>,
-    rooms: [Option<Room>; TERMINATIONS],
+    rooms: [Option<Room>; TERMINATION_LIMIT],
     totals: Vec<SumRow>,
     // Scratch space for the sums of a mix.
     rest: SumRow,
@@ -58,7 +58,7 @@ impl Sums {
     {
         Ok(Sums {
             frames: silent_frames(alloc)?,
-            rooms: [None; TERMINATIONS],
+            rooms: [None; TERMINATION_LIMIT],
             totals: zero_totals(alloc)?,
             rest: SumRow::new(),
             work: 0,
@@ -223,7 +223,7 @@ fn silent_frames(alloc: Global) -> Result<Vec<FrameRow>, AllocError>
     ensures { IfOk result (λ frames. frames.items ≡ replicate termination_limit silence) }
 {
     let mut frames = Vec::new(alloc);
-    for _row in 0..TERMINATIONS {
+    for _row in 0..TERMINATION_LIMIT {
         frames.push(FrameRow::new(None))?;
     }
     Ok(frames)
@@ -233,7 +233,7 @@ fn zero_totals(alloc: Global) -> Result<Vec<SumRow>, AllocError>
     ensures { IfOk result (λ totals. totals.items ≡ replicate context_limit silence) }
 {
     let mut totals = Vec::new(alloc);
-    for _room in 0..CONTEXTS {
+    for _room in 0..CONTEXT_LIMIT {
         totals.push(SumRow::new())?;
     }
     Ok(totals)

@@ -9,7 +9,7 @@ use mg_engine::{
 use mg_playout::Placed;
 use mg_rtp::{Header, RtpFault, write};
 use mg_sdp::read_sessions;
-use mg_words::MEMBERS;
+use mg_words::MEMBER_LIMIT;
 use std::alloc::Global;
 use std::process::Abort;
 use std::test::Fail;
@@ -431,7 +431,7 @@ fn ticks_at_the_price_of_a_few_rows(rt: HostRuntime) -> Result<(), Fail> {
 
 /// Sends a packet of the loudest speech to each port of a full context.
 fn speak_at_each_port(engine: &mut Engine) {
-    for slot in 0..MEMBERS {
+    for slot in 0..MEMBER_LIMIT {
         engine.media(30000 + 2 * slot as u16, CALLER, &packet(0x80));
     }
 }
@@ -447,22 +447,22 @@ fn tick_with_many(
 ) -> Result<(), Fail> {
     speak_at_each_port(engine);
     tick(engine, outbox, 2);
-    assert!(rt; tick_rows(engine, outbox) <= 3 * MEMBERS as u32);
-    assert_equal(rt, engine.total(1, 0), Some(32124 * MEMBERS as i32));
-    let want: &[u8] = &[0x80; MEMBERS];
+    assert!(rt; tick_rows(engine, outbox) <= 3 * MEMBER_LIMIT as u32);
+    assert_equal(rt, engine.total(1, 0), Some(32124 * MEMBER_LIMIT as i32));
+    let want: &[u8] = &[0x80; MEMBER_LIMIT];
     assert_equal(rt, payloads(alloc, outbox)?.as_slice(), want);
     Ok(())
 }
 
 #[test]
 fn ticks_of_many_talkers_cost_three_rows_each(rt: HostRuntime) -> Result<(), Fail> {
-    let modes = [Mode::SendReceive; MEMBERS];
+    let modes = [Mode::SendReceive; MEMBER_LIMIT];
     play(&rt, rt.alloc(), Scene::TickWithMany, &modes)
 }
 
 /// Returns the modes of a full context in which one member talks and all others listen.
-fn lecture() -> [Mode; MEMBERS] {
-    let mut modes = [Mode::SendOnly; MEMBERS];
+fn lecture() -> [Mode; MEMBER_LIMIT] {
+    let mut modes = [Mode::SendOnly; MEMBER_LIMIT];
     modes[0] = Mode::SendReceive;
     modes
 }
@@ -479,7 +479,7 @@ fn share_a_payload(
     assert!(rt; tick_rows(engine, outbox) <= 4);
     let payloads = payloads(alloc, outbox)?;
     let want: &[u8] = &[0xff, 0x80, 0x80];
-    assert!(rt; payloads.len() == MEMBERS);
+    assert!(rt; payloads.len() == MEMBER_LIMIT);
     assert_equal(rt, payloads.as_slice().split_at(3).0, want);
     assert_equal(rt, payloads.as_slice().last(), Some(&0x80));
     Ok(())

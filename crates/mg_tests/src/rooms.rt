@@ -5,8 +5,8 @@ ghost use Rattle.std.specs.Prelude.{◌≡◌};
 use crate::equality::assert_equal;
 use mg_g711::Law;
 use mg_rooms::{
-    ErrorNumber, Limits, MEMBERS, MediaSetting, Member, Mode, Record, Rooms, Settings,
-    TERMINATIONS, Target, mode_listens, mode_talks,
+    ErrorNumber, Limits, MEMBER_LIMIT, MediaSetting, Member, Mode, Record, Rooms, Settings,
+    TERMINATION_LIMIT, Target, mode_listens, mode_talks,
 };
 use mg_sdp::{Chosen, read_sessions};
 use std::process::Abort;
@@ -15,7 +15,7 @@ use std::test::Fail;
 const LIMITS: Limits = Limits {
     address: [127, 0, 0, 1],
     base_port: 30000,
-    slots: TERMINATIONS as u16,
+    slots: TERMINATION_LIMIT as u16,
     first_termination: 1,
     first_context: 1,
 };
@@ -29,7 +29,7 @@ fn numbers(member: Member) -> (u32, u32)
 
 /// Limits with enough slots for a full context and a context with two members.
 const CROWDED: Limits = Limits {
-    slots: MEMBERS as u16 + 2,
+    slots: MEMBER_LIMIT as u16 + 2,
     ..LIMITS
 };
 
@@ -37,7 +37,7 @@ const CROWDED: Limits = Limits {
 fn fill_context(rt: &impl Abort, rooms: &mut Rooms, context: u32) {
     let first = rooms.add(Target::New, &Settings::default());
     assert_equal(rt, first.map(|member| member.record.context), Ok(context));
-    for _ in 1..MEMBERS {
+    for _ in 1..MEMBER_LIMIT {
         let next = rooms.add(Target::Number(context), &Settings::default());
         assert_equal(rt, next.map(|member| member.record.context), Ok(context));
     }
@@ -63,7 +63,7 @@ fn slots_and_contexts_fill_up(rt: HostRuntime) -> Result<(), Fail> {
         Err(ErrorNumber::NoTerminationLeft),
     );
 
-    let (slot, first) = (MEMBERS as u8, MEMBERS as u32 + 1);
+    let (slot, first) = (MEMBER_LIMIT as u8, MEMBER_LIMIT as u32 + 1);
     let gone = rooms.subtract(Target::Number(2), first);
     assert_equal(&rt, gone.map(numbers), Ok((2, first)));
     assert_equal(&rt, rooms.at_slot(slot), None);
@@ -74,11 +74,15 @@ fn slots_and_contexts_fill_up(rt: HostRuntime) -> Result<(), Fail> {
     );
 
     let added = rooms.add(Target::Number(2), &settings);
-    let last = MEMBERS as u32 + 3;
+    let last = MEMBER_LIMIT as u32 + 3;
     assert_equal(&rt, added.map(numbers), Ok((2, last)));
     assert_equal(&rt, rooms.at_slot(slot), Some(last));
     assert_equal(&rt, rooms.members(2).last().copied(), Some(last));
-    assert_equal(&rt, CROWDED.slot_port(slot), 30000 + 2 * MEMBERS as u16);
+    assert_equal(
+        &rt,
+        CROWDED.slot_port(slot),
+        30000 + 2 * MEMBER_LIMIT as u16,
+    );
     Ok(())
 }
 
@@ -256,7 +260,7 @@ fn limits_are_reported(rt: HostRuntime) -> Result<(), Fail> {
         (Limits { slots: 0, ..LIMITS }, false),
         (
             Limits {
-                slots: TERMINATIONS as u16 + 1,
+                slots: TERMINATION_LIMIT as u16 + 1,
                 ..LIMITS
             },
             false,

@@ -3,7 +3,7 @@ ghost use Rattle.std.specs.List.{list_all};
 ghost use Rattle.mg_words.specs.Cut.{cut};
 ghost use Rattle.mg_text.specs.Sender.{is_sender, is_domain_byte, is_domain, is_address, is_port_part, is_host};
 
-use mg_words::{TERM_LIMIT, address_of, cut, port_of};
+use mg_words::{NAME_LIMIT, address_of, cut, port_of};
 
 /// Returns whether a byte is allowed in a domain name: a letter, a digit, `-` or `.`.
 fn is_domain_byte(b: u8) -> bool
@@ -23,7 +23,7 @@ fn all_domain_bytes(text: &[u8]) -> bool
 fn is_domain(text: &[u8]) -> bool
     ensures value { result ≡ is_domain text.now }
 {
-    !text.is_empty() && text.len() <= TERM_LIMIT && all_domain_bytes(text)
+    !text.is_empty() && text.len() <= NAME_LIMIT && all_domain_bytes(text)
 }
 
 /// Returns whether a string is empty, or a colon and a port.
@@ -68,6 +68,6 @@ pub fn is_sender(text: &[u8]) -> bool
         [] => false,
         [b'[', rest @ ..] => is_address_host(rest),
         [b'<', rest @ ..] => is_domain_host(rest),
-        _ => text.len() <= TERM_LIMIT,
+        _ => text.len() <= NAME_LIMIT,
     }
 }

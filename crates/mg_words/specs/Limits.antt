@@ -14,12 +14,12 @@ context_limit = 64
 abbrev pub termination_limit : ℕ
 termination_limit = 256
 
--- The minimum (`least_depth`), maximum (`greatest_depth`) and initial depth (`first_depth`) of a play list, in frames.
-abbrev pub least_depth : ℕ
-least_depth = 2
+-- The minimum (`min_depth`), maximum (`max_depth`) and initial depth (`first_depth`) of a play list, in frames.
+abbrev pub min_depth : ℕ
+min_depth = 2
 
-abbrev pub greatest_depth : ℕ
-greatest_depth = 16
+abbrev pub max_depth : ℕ
+max_depth = 16
 
 abbrev pub first_depth : ℕ
 first_depth = 4

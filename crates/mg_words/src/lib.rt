@@ -34,9 +34,10 @@ pub use crate::command_word::CommandWord;
 pub use crate::context_id::{ContextId, context_id_of};
 pub use crate::error_number::{ERROR_LIMIT, ErrorNumber};
 pub use crate::limits::{
-    ALTERNATIVE_LIMIT, COMMAND_LIMIT, CONTEXTS, FIRST_DEPTH, FRAME_MS, KEPT_REPLIES, LAST_CONTEXT,
-    LAST_TERMINATION, MAX_DEPTH, MEMBERS, MESSAGE_LIMIT, MIN_DEPTH, REPLY_LIMIT, REQUEST_LIMIT,
-    SAMPLES, SENDER_LIMIT, TERM_LIMIT, TERMINATIONS, constants_are_limits, limits_fit,
+    ALTERNATIVE_LIMIT, COMMAND_LIMIT, CONTEXT_LIMIT, FIRST_DEPTH, FRAME_MS, KEPT_LIMIT,
+    LAST_CONTEXT, LAST_TERMINATION, MAX_DEPTH, MEMBER_LIMIT, MESSAGE_LIMIT, MIN_DEPTH, NAME_LIMIT,
+    REPLY_LIMIT, REQUEST_LIMIT, SAMPLES, SENDER_LIMIT, TERMINATION_LIMIT, constants_are_limits,
+    limits_fit,
 };
 pub use crate::mode::{Mode, mode_listens, mode_talks};
 pub use crate::number::{number_of, port_of, uint16_of, version_in_digits};

@@ -1,14 +1,14 @@
 ghost use Rattle.std.specs.Prelude.{◌≡◌, ◌≤◌, ◌^◌};
-ghost use Rattle.mg_words.specs.Limits.{member_limit, context_limit, termination_limit, least_depth, greatest_depth, first_depth, message_limit, request_limit, command_limit, name_limit, sender_limit, alternative_limit, reply_limit, kept_limit, last_termination, last_context};
+ghost use Rattle.mg_words.specs.Limits.{member_limit, context_limit, termination_limit, min_depth, max_depth, first_depth, message_limit, request_limit, command_limit, name_limit, sender_limit, alternative_limit, reply_limit, kept_limit, last_termination, last_context};
 
 /// The maximum number of members in a context.
-pub const MEMBERS: usize = 64;
+pub const MEMBER_LIMIT: usize = 64;
 
 /// The maximum number of contexts in a gateway.
-pub const CONTEXTS: usize = 64;
+pub const CONTEXT_LIMIT: usize = 64;
 
 /// The maximum number of terminations in a gateway.
-pub const TERMINATIONS: usize = 256;
+pub const TERMINATION_LIMIT: usize = 256;
 
 /// The minimum depth of a play list, in frames of 20 ms.
 pub const MIN_DEPTH: usize = 2;
@@ -35,7 +35,7 @@ pub const REQUEST_LIMIT: usize = 4;
 pub const COMMAND_LIMIT: usize = 64;
 
 /// The maximum length, in bytes, of a termination's name, a domain name or a device name.
-pub const TERM_LIMIT: usize = 64;
+pub const NAME_LIMIT: usize = 64;
 
 /// The maximum length of a sender's name, in bytes: a domain name in angle brackets, a colon and a five-digit port.
 pub const SENDER_LIMIT: usize = 72;
@@ -47,7 +47,7 @@ pub const ALTERNATIVE_LIMIT: usize = 8;
 pub const REPLY_LIMIT: usize = 16000;
 
 /// The maximum number of replies that are kept to answer retransmitted requests.
-pub const KEPT_REPLIES: usize = 32;
+pub const KEPT_LIMIT: usize = 32;
 
 /// The largest number that a termination can have.
 pub const LAST_TERMINATION: u32 = 4294967295;
@@ -57,19 +57,19 @@ pub const LAST_CONTEXT: u32 = 4294967293;
 
 /// The constants equal the limits in the definitions, and a frame has 160 samples, as the definitions say.
 pub fn constants_are_limits()
-    ensures members { MEMBERS ≡ member_limit }
-    ensures contexts { CONTEXTS ≡ context_limit }
-    ensures terminations { TERMINATIONS ≡ termination_limit }
-    ensures depths { (MIN_DEPTH ≡ least_depth) × (MAX_DEPTH ≡ greatest_depth) × (FIRST_DEPTH ≡ first_depth) }
+    ensures members { MEMBER_LIMIT ≡ member_limit }
+    ensures contexts { CONTEXT_LIMIT ≡ context_limit }
+    ensures terminations { TERMINATION_LIMIT ≡ termination_limit }
+    ensures depths { (MIN_DEPTH ≡ min_depth) × (MAX_DEPTH ≡ max_depth) × (FIRST_DEPTH ≡ first_depth) }
     ensures samples { SAMPLES ≡ 160 }
     ensures message { MESSAGE_LIMIT ≡ message_limit }
     ensures requests { REQUEST_LIMIT ≡ request_limit }
     ensures commands { COMMAND_LIMIT ≡ command_limit }
-    ensures names { TERM_LIMIT ≡ name_limit }
+    ensures names { NAME_LIMIT ≡ name_limit }
     ensures senders { SENDER_LIMIT ≡ sender_limit }
     ensures alternatives { ALTERNATIVE_LIMIT ≡ alternative_limit }
     ensures reply { REPLY_LIMIT ≡ reply_limit }
-    ensures kept { KEPT_REPLIES ≡ kept_limit }
+    ensures kept { KEPT_LIMIT ≡ kept_limit }
     ensures numbers { (LAST_TERMINATION ≡ last_termination) × (LAST_CONTEXT ≡ last_context) }
 {}
 

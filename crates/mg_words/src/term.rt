@@ -3,7 +3,7 @@ ghost use Rattle.std.specs.List.{list_all};
 ghost use Rattle.mg_words.specs.WordByte.{is_word_byte};
 ghost use Rattle.mg_words.specs.Term.{is_term, rtp_name};
 
-use crate::limits::TERM_LIMIT;
+use crate::limits::NAME_LIMIT;
 use crate::word_byte::is_word_byte;
 use arrayvec::ArrayVec;
 use itoa::Buffer;
@@ -12,7 +12,7 @@ use std::marker::Model;
 /// The name of a termination: a word of 1 to 64 bytes. In contracts, it appears as a list of bytes.
 #[derive(Drop)]
 pub struct Term {
-    bytes: ArrayVec<u8, TERM_LIMIT>,
+    bytes: ArrayVec<u8, NAME_LIMIT>,
 }
 
 impl Model for Term {
@@ -37,7 +37,7 @@ fn all_word_bytes(text: &[u8]) -> bool
 pub fn is_term(text: &[u8]) -> bool
     ensures value { result ≡ is_term text.now }
 {
-    !text.is_empty() && text.len() <= TERM_LIMIT && all_word_bytes(text)
+    !text.is_empty() && text.len() <= NAME_LIMIT && all_word_bytes(text)
 }
 
 impl Term {

@@ -3,7 +3,7 @@ use Rattle.std.specs.Prelude.{ℕ, ◌+◌, Bool, not, ◌&&◌, ◌==◌, nat_l
 use Rattle.std.specs.Prelude.{Option, Some, None, is_none, find}
 use Rattle.std.specs.List.{list_any}
 use Rattle.mg_words.specs.Limits.{context_limit, member_limit, last_termination, last_context}
-use Rattle.mg_words.specs.Limits.{least_depth, greatest_depth}
+use Rattle.mg_words.specs.Limits.{min_depth, max_depth}
 use Rattle.mg_rooms.specs.declared.context.Context.{Context}
 use Rattle.mg_rooms.specs.declared.record.Record.{Record}
 use Rattle.mg_rooms.specs.Changes.{joined}
@@ -32,7 +32,7 @@ is_within w r =
     && (nat_lt r.number w.next_termination
     && (nat_lt r.slot w.limits.slots
     && (nat_lt r.seat member_limit
-    && (nat_le least_depth r.depth && nat_le r.depth greatest_depth))))
+    && (nat_le min_depth r.depth && nat_le r.depth max_depth))))
 
 -- No termination has the number, the slot, or the seat in this context.
 abbrev pub is_free : Registry → Record → Bool

@@ -10,8 +10,8 @@ use crate::date::Date;
 use crate::date_text::{DateText, TEXT_LIMIT};
 use mg_bytes::Bytes;
 use mg_chain::{END, FOLLOWS, MARK};
-use mg_core::count_of;
 use mg_journal::{AppendFault, Durability, Journal};
+use mg_ports::Batch;
 use std::alloc::{AllocError, Global};
 use std::marker::Model;
 use std::time::Clock;
@@ -37,18 +37,15 @@ const JOINT: usize = 10 + END;
 /// The capacity of the buffer, in bytes.
 const TEXT_ROOM: usize = LINES_ROOM + TEXT_LIMIT + MARKS + SEAL;
 
-/// Lines without a message get a new date if the last date is at least this old, in milliseconds, or the clock was set
-/// back. The same age of the last seal decides whether a date gets a seal.
+/// Ticks get a new date if the last date is at least this old, in milliseconds, or the clock was set back. The same age
+/// of the last seal decides whether a date gets a seal.
 const MAX_AGE: u64 = 60_000;
 
-/// A journal that adds dates: before the first lines, before the first message of each second, and before ticks if the
+/// A journal that adds dates: before the first batch, before the first message of each second, and before ticks if the
 /// last date is a minute old or the clock was set back.
 ///
 /// A seal (`mg_chain`) precedes the first date, and then a date about once a minute. A date that is earlier than that
 /// of the last seal gets a seal, too.
-///
-/// A line that begins with `control` is a message. All other lines are treated as ticks; only a line such as `ticks 12`
-/// has a number of them.
 #[derive(Drop)]
 pub struct DatedJournal<'a, J: Journal, C: Clock> {
     journal: J,
@@ -72,37 +69,24 @@ impl<'a, J: Journal, C: Clock> Model for DatedJournal<'a, J, C> {
     ghost invariant = { λ d. d.text.room + length d.text.text ≡ TEXT_ROOM };
 }
 
-/// Returns whether the first line is a message.
-fn is_message(lines: &[u8]) -> bool {
-    lines.starts_with(b"control")
-}
-
-/// Returns the number of ticks in a line such as `ticks 12`, or 0 for any other line.
-fn count_in(line: &[u8]) -> u64 {
-    let Some(rest) = line.strip_prefix(b"ticks ".as_slice()) else {
-        return 0;
-    };
-    let Some(digits) = rest.strip_suffix(b"\n".as_slice()) else {
-        return 0;
-    };
-    count_of(digits).unwrap_or(0)
-}
-
-/// Returns the time of the events in a line that is being appended. For ticks, this is the time at which the first tick
+/// Returns the time of the events in a batch that is being appended. For ticks, this is the time at which the first tick
 /// began.
-fn date_of(line: &[u8], now: Date) -> Date {
-    now.before(count_in(line).saturating_mul(TICK))
+fn date_of(batch: Batch, now: Date) -> Date {
+    match batch {
+        Batch::Message => now,
+        Batch::Ticks(count) => now.before(count.saturating_mul(TICK)),
+    }
 }
 
-/// Returns whether lines need a date.
-fn needs_date(lines: &[u8], last: Option<Date>, now: Date) -> bool {
+/// Returns whether a batch needs a date.
+fn needs_date(batch: Batch, last: Option<Date>, now: Date) -> bool {
     let Some(last) = last else {
         return true;
     };
-    if is_message(lines) {
-        return now.second() != last.second();
+    match batch {
+        Batch::Message => now.second() != last.second(),
+        Batch::Ticks(_) => now < last || now.millis - last.millis >= MAX_AGE,
     }
-    now < last || now.millis - last.millis >= MAX_AGE
 }
 
 /// Returns whether a date needs a seal.
@@ -179,13 +163,13 @@ impl<'a, J: Journal, C: Clock> DatedJournal<'a, J, C> {
         &self.journal
     }
 
-    /// Returns the date that these lines need, or `None` if they don't need a date or the clock can't be read.
-    fn next_date(&self, lines: &[u8]) -> Option<Date> {
+    /// Returns the date that a batch needs, or `None` if it doesn't need a date or the clock can't be read.
+    fn next_date(&self, batch: Batch) -> Option<Date> {
         let Ok(now) = Date::now(self.clock) else {
             return None;
         };
-        if needs_date(lines, self.last, now) {
-            return Some(date_of(lines, now));
+        if needs_date(batch, self.last, now) {
+            return Some(date_of(batch, now));
         }
         None
     }
@@ -199,13 +183,18 @@ impl<'a, J: Journal, C: Clock> DatedJournal<'a, J, C> {
         self.journal.append(lines, durability)
     }
 
-    /// Appends lines. Puts a date before them if they need one, and a seal before the date if the date needs one. Adds
-    /// neither if the clock can't be read, the year is after 9999, or the lines are too long.
-    pub fn append(&mut self, lines: &[u8], durability: Durability) -> Result<(), AppendFault>
+    /// Appends the lines of a batch. Puts a date before them if they need one, and a seal before the date if the date
+    /// needs one. Adds neither if the clock can't be read, the year is after 9999, or the lines are too long.
+    pub fn append(
+        &mut self,
+        batch: Batch,
+        lines: &[u8],
+        durability: Durability,
+    ) -> Result<(), AppendFault>
         requires line_feed { EndsInLineFeed lines.now }
         ensures value { AppendsDated lines.now durability self.old self.new result }
     {
-        let Some(date) = self.next_date(lines) else {
+        let Some(date) = self.next_date(batch) else {
             return self.append_undated(lines, durability);
         };
         let Some(text) = DateText::of(date) else {

@@ -5,6 +5,7 @@ ghost use Rattle.mg_ports.specs.Calls.{IsCounted, receipt_of};
 ghost use Rattle.mg_ports.specs.Journaled.{RenewsDated};
 
 use crate::arrival::Arrival;
+use crate::batch::Batch;
 use crate::call::Call;
 use crate::failure_causes::FailureCauses;
 use crate::log::Log;
@@ -195,7 +196,12 @@ impl Ports for FakePorts {
         self.log.add_call(Some(Call::BeginTick(timing)));
     }
 
-    fn append(&mut self, lines: &[u8], durability: Durability) -> Result<(), AppendFault> {
+    fn append(
+        &mut self,
+        _batch: Batch,
+        lines: &[u8],
+        durability: Durability,
+    ) -> Result<(), AppendFault> {
         let answer = self.journal.append(lines, durability);
         let call = match Payload::new(self.alloc, lines) {
             Ok(lines) => Some(Call::Append(lines, durability, answer)),

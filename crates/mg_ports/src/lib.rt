@@ -3,7 +3,7 @@
 //! Socket 0 is the control socket, and socket s + 1 is the media socket of slot s in the pool.
 //!
 //! [`Ports`] has the calls that a gateway needs. They receive a datagram without blocking, send a datagram, and begin a
-//! tick. They append lines to the journal, say whether to renew it, and renew it. They also count the failed receives
+//! tick. They append a line to the journal, say whether to renew it, and renew it. They also count the failed receives
 //! and sends. [`FakePorts`] provides in-memory ports for tests. These return the datagrams that they were given, make
 //! chosen calls fail, and log each call.
 //!
@@ -22,6 +22,7 @@
 #![tactic(auto)]
 
 mod arrival;
+mod batch;
 mod call;
 mod failure_causes;
 mod fake_ports;
@@ -32,6 +33,7 @@ mod ports;
 mod receipt;
 
 pub use crate::arrival::Arrival;
+pub use crate::batch::Batch;
 pub use crate::call::Call;
 pub use crate::failure_causes::FailureCauses;
 pub use crate::fake_ports::FakePorts;

@@ -6,6 +6,7 @@ ghost use Rattle.mg_journal.specs.Journal.{JournalState, no_journal};
 ghost use Rattle.mg_ports.specs.Calls.{Grows, IsCounted, receipt_of};
 ghost use Rattle.mg_ports.specs.Journaled.{AppendsDated, RenewsDated};
 
+use crate::batch::Batch;
 use crate::failure_causes::FailureCauses;
 use crate::port_fault::PortFault;
 use mg_clock::Timing;
@@ -50,9 +51,14 @@ pub trait Ports {
         ensures logged { Grows (calls self.old) (calls self.new) (BeginTick timing ∷ []) }
         ensures journal { journal self.new ≡ journal self.old };
 
-    /// Appends all of the lines to the journal or none, unless the journal breaks. The last line must end in a line
-    /// feed. A seal and a comment with the time of day may precede the lines. Fails if there is no journal.
-    fn append(&mut self, lines: &[u8], durability: Durability) -> Result<(), AppendFault>
+    /// Appends all of the lines of a batch to the journal or none, unless the journal breaks. The last line must end in
+    /// a line feed. A seal and a comment with the time of day may precede the lines. Fails if there is no journal.
+    fn append(
+        &mut self,
+        batch: Batch,
+        lines: &[u8],
+        durability: Durability,
+    ) -> Result<(), AppendFault>
         requires line_feed { EndsInLineFeed lines.now }
         ensures logged { Grows (calls self.old) (calls self.new) (Append lines.now durability result ∷ []) }
         ensures journal { AppendsDated lines.now durability (journal self.old) (journal self.new) result };

@@ -16,7 +16,7 @@ use mg_core::Peer;
 use mg_dates::DatedJournal;
 use mg_host::{Environment, Journals, Sockets};
 use mg_journal::{AppendFault, Durability, FileJournal, Journal};
-use mg_ports::{FailureCauses, PortFault, Ports, Timing};
+use mg_ports::{Batch, FailureCauses, PortFault, Ports, Timing};
 use std::marker::PhantomData;
 use std::time::Clock;
 
@@ -45,9 +45,10 @@ pub(crate) type PortsOf<'a, E, K> = GatewayPorts<
     K,
 >;
 
-/// Appends lines to the journal, or fails if there is no journal.
+/// Appends the lines of a batch to the journal, or fails if there is no journal.
 fn append<J: Journal, C: Clock>(
     journal: &mut Option<DatedJournal<'_, J, C>>,
+    batch: Batch,
     lines: &[u8],
     durability: Durability,
 ) -> Result<(), AppendFault>
@@ -56,7 +57,7 @@ fn append<J: Journal, C: Clock>(
         (option_map_or (λ d. d) journal.new no_journal) result }
 {
     match journal {
-        Some(journal) => journal.append(lines, durability),
+        Some(journal) => journal.append(batch, lines, durability),
         None => Err(AppendFault::Broken),
     }
 }
@@ -143,10 +144,15 @@ impl<'a, H: Sockets, J: Journal, C: Clock, K: LogKey> Ports for GatewayPorts<'a,
         self.timing = timing;
     }
 
-    fn append(&mut self, lines: &[u8], durability: Durability) -> Result<(), AppendFault> {
-        let outcome = append(&mut self.journal, lines, durability);
+    fn append(
+        &mut self,
+        batch: Batch,
+        lines: &[u8],
+        durability: Durability,
+    ) -> Result<(), AppendFault> {
+        let outcome = append(&mut self.journal, batch, lines, durability);
         self.host.log_append(lines, durability, outcome);
-        self.renewals.count(lines, outcome.is_ok());
+        self.renewals.count(batch, outcome.is_ok());
         outcome
     }
 

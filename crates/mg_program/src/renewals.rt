@@ -2,6 +2,7 @@ ghost use Rattle.std.specs.Prelude.{◌≡◌, ◌-◌, ◌<◌, false, if◌the
 
 use mg_dates::DatedJournal;
 use mg_journal::Journal;
+use mg_ports::Batch;
 use std::time::Clock;
 
 /// The number of ticks between two looks at the journal's file: one second's worth.
@@ -39,11 +40,11 @@ impl Renewals {
         }
     }
 
-    /// Counts a message in lines, if they were appended. A message is always appended by itself.
-    pub(crate) fn count(&mut self, lines: &[u8], has_worked: bool)
+    /// Counts a message if its line was appended.
+    pub(crate) fn count(&mut self, batch: Batch, has_worked: bool)
         ensures pause { self.new.pause ≡ self.old.pause }
     {
-        if has_worked && lines.starts_with(b"control") {
+        if has_worked && batch == Batch::Message {
             self.messages = self.messages.saturating_add(1);
         }
     }

@@ -18,7 +18,7 @@ use crate::renewal::renewal_text;
 use crate::setup::Setup;
 use mg_core::{Core, EventLine, Peer, is_oversized, ticks_line};
 use mg_journal::{AppendFault, Durability};
-use mg_ports::Ports;
+use mg_ports::{Batch, Ports};
 use std::alloc::{AllocError, Global};
 use std::marker::Model;
 
@@ -56,9 +56,10 @@ impl Model for Journaling {
     ghost invariant = { λ j. (j.untried ≤ j.lacking) × (j.untried < 10) };
 }
 
-/// Appends lines, and counts the append if it fails.
+/// Appends the lines of a batch, and counts the append if it fails.
 fn append<P: Ports>(
     ports: &mut P,
+    batch: Batch,
     lines: &[u8],
     durability: Durability,
     failed: &mut u64,
@@ -67,7 +68,7 @@ fn append<P: Ports>(
     ensures logged { Grows (P.calls ports.old) (P.calls ports.new) (Append lines.now durability result ∷ []) }
     ensures journal { AppendsDated lines.now durability (P.journal ports.old) (P.journal ports.new) result }
 {
-    let result = ports.append(lines, durability);
+    let result = ports.append(batch, lines, durability);
     if result.is_err() {
         *failed = failed.saturating_add(1);
     }
@@ -83,6 +84,7 @@ fn append_line<P: Ports>(ports: &mut P, ticks: u64, failed: &mut u64) -> Result<
 {
     append(
         ports,
+        Batch::Ticks(ticks),
         ticks_line(ticks).as_slice(),
         Durability::Written,
         failed,
@@ -197,7 +199,13 @@ impl Journaling {
         }
         self.line.control(source, bytes);
         self.untried = 0;
-        append(ports, self.line.as_slice(), durability, &mut self.failed)
+        append(
+            ports,
+            Batch::Message,
+            self.line.as_slice(),
+            durability,
+            &mut self.failed,
+        )
     }
 
     /// Counts a tick that has passed. If the journal lacks at least ten ticks, tries one append. Does nothing without a

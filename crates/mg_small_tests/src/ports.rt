@@ -4,8 +4,8 @@ use crate::equality::assert_equal;
 use crate::journal::{BROKEN, FULL, REFUSED, ends_in_line_feed, file};
 use mg_journal::{FileCall, InjectedFault, MemoryFile, Opening};
 use mg_ports::{
-    AppendFault, Arrival, Call, Durability, FakePorts, Payload, Peer, PortFault, Ports, Receipt,
-    Timing,
+    AppendFault, Arrival, Batch, Call, Durability, FakePorts, Payload, Peer, PortFault, Ports,
+    Receipt, Timing,
 };
 use std::alloc::{AllocError, Global};
 use std::io;
@@ -217,7 +217,7 @@ fn does(ports: &mut FakePorts, buffer: &mut [u8], action: &Action<'_>) -> bool {
             true
         }
         Action::Append(lines, durability, outcome) => {
-            ends_in_line_feed(lines) && ports.append(lines, durability) == outcome
+            ends_in_line_feed(lines) && ports.append(Batch::Message, lines, durability) == outcome
         }
     }
 }

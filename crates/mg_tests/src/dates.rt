@@ -5,6 +5,7 @@ use mg_dates::{Date, DatedJournal, Timeline};
 use mg_journal::{
     AppendFault, Durability, FaultEffect, FileCall, FileJournal, InjectedFault, MemoryFile, Opening,
 };
+use mg_ports::Batch;
 use std::alloc::Global;
 use std::cell::Cell;
 use std::io::{self, ErrorKind};
@@ -50,18 +51,18 @@ fn dates_messages_and_old_ticks(rt: HostRuntime) -> Result<(), Fail> {
         millis: Cell::new(START),
     };
     let mut dated = DatedJournal::new(rt.alloc(), journal(rt.alloc(), &[])?, &clock)?;
-    for (millis, lines) in [
-        // The first lines get a seal, and the date of their first tick.
-        (0, b"ticks 2\n".as_slice()),
+    for (millis, batch, line) in [
+        // The first batch gets a seal, and the date of its first tick.
+        (0, Batch::Ticks(2), b"ticks 2\n".as_slice()),
         // The first message of a later second gets a date, and the next message does not.
-        (1_250, MESSAGE),
-        (1_900, MESSAGE),
+        (1_250, Batch::Message, MESSAGE),
+        (1_900, Batch::Message, MESSAGE),
         // Ticks get a date only after a minute, and the date gets a seal.
-        (61_240, b"ticks 1\n"),
-        (61_250, b"ticks 1\n"),
+        (61_240, Batch::Ticks(1), b"ticks 1\n"),
+        (61_250, Batch::Ticks(1), b"ticks 1\n"),
     ] {
         clock.millis.set(after(millis).millis);
-        assert_equal(&rt, dated.append(lines, Durability::Written), Ok(()));
+        assert_equal(&rt, dated.append(batch, line, Durability::Written), Ok(()));
     }
     let text =
         "# sha256 e3b0c44298fc1c149afbf4c8996fb92427ae41e4649b934ca495991b7852b855\n# time 2026-11-27T14:03:19.96Z\nticks 2\n# time 2026-11-27T14:03:21.25Z\ncontrol 127.0.0.1:2944 00\ncontrol 127.0.0.1:2944 00\nticks 1\n# sha256 2f4f7dc433989ecb1096471e23a1d1beeffe31d953111d0d4c6238941f42ff54\n# time 2026-11-27T14:04:21.23Z\nticks 1\n";
@@ -82,11 +83,15 @@ fn dates_only_what_is_appended(rt: HostRuntime) -> Result<(), Fail> {
     let mut dated = DatedJournal::new(rt.alloc(), journal(rt.alloc(), &faults)?, &clock)?;
     assert_equal(
         &rt,
-        dated.append(MESSAGE, Durability::Synced),
+        dated.append(Batch::Message, MESSAGE, Durability::Synced),
         Err(AppendFault::Refused),
     );
     assert_equal(&rt, dated.journal().file().bytes(), b"".as_slice());
-    assert_equal(&rt, dated.append(MESSAGE, Durability::Synced), Ok(()));
+    assert_equal(
+        &rt,
+        dated.append(Batch::Message, MESSAGE, Durability::Synced),
+        Ok(()),
+    );
     let text =
         "# sha256 e3b0c44298fc1c149afbf4c8996fb92427ae41e4649b934ca495991b7852b855\n# time 2026-11-27T14:03:20Z\ncontrol 127.0.0.1:2944 00\n";
     assert_equal(&rt, dated.journal().file().bytes(), text.as_bytes());

@@ -1,5 +1,6 @@
 """Gateways that run in real time: ticks, answers between ticks, stalls, and metrics."""
 import re
+import shutil
 import signal
 import socket
 import tempfile
@@ -123,3 +124,15 @@ class RealTime(Commands):
         self.assertGreaterEqual(lasted, 5)
         self.assertTrue(text.startswith("# HELP lobbysorrel_info "))
         self.assertTrue(text.endswith("# TYPE lobbysorrel_port_silence_seconds gauge\n"))
+
+    def test_metrics_that_cannot_be_written_are_reported_once(self):
+        """The folder of the metrics is gone when the gateway writes them, twice."""
+        with tempfile.TemporaryDirectory() as folder:
+            path = Path(folder) / "gone" / "gateway.prom"
+            path.parent.mkdir()
+            with Gateway("live", *ports(0, 1), f"--metrics={path}") as gateway:
+                shutil.rmtree(path.parent)
+                time.sleep(11)
+                gateway.process.kill()
+                errors = gateway.process.stderr.read()
+        self.assertEqual(errors, f"cannot write {path}: No such file or directory (os error 2)\n")

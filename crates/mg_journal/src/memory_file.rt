@@ -81,19 +81,13 @@ impl JournalFile for MemoryFile {
     ghost file = { λ f. record { bytes = Some f.bytes.items; synced = Some (take f.synced f.bytes.items) } };
 
     fn read(&mut self, at: u64, buffer: &mut [u8]) -> io::Result<usize> {
-        let most = match self.begin(FileCall::Read) {
-            Ok(most) => most.max(1).min(buffer.len()),
-            Err(error) => return Err(error),
-        };
+        let most = self.begin(FileCall::Read)?.max(1).min(buffer.len());
         let at = (at as usize).min(self.bytes.len());
         Ok(copy_front(&self.bytes.as_slice()[at..], &mut buffer[..most]))
     }
 
     fn write(&mut self, bytes: &[u8]) -> io::Result<usize> {
-        let most = match self.begin(FileCall::Write) {
-            Ok(most) => most.min(bytes.len()),
-            Err(error) => return Err(error),
-        };
+        let most = self.begin(FileCall::Write)?.min(bytes.len());
         match self.bytes.extend_from_slice(&bytes[..most]) {
             Ok(()) => Ok(most),
             Err(_) => Err(io::Error::from(io::ErrorKind::OutOfMemory)),
@@ -101,9 +95,7 @@ impl JournalFile for MemoryFile {
     }
 
     fn cut(&mut self, len: u64) -> io::Result<()> {
-        if let Err(error) = self.begin(FileCall::Cut) {
-            return Err(error);
-        }
+        self.begin(FileCall::Cut)?;
         let len = len as usize;
         self.synced = self.synced.min(len);
         self.bytes.truncate(len);
@@ -111,9 +103,7 @@ impl JournalFile for MemoryFile {
     }
 
     fn sync(&mut self) -> io::Result<()> {
-        if let Err(error) = self.begin(FileCall::Sync) {
-            return Err(error);
-        }
+        self.begin(FileCall::Sync)?;
         self.synced = self.bytes.len();
         Ok(())
     }
@@ -123,24 +113,18 @@ impl JournalFile for MemoryFile {
     }
 
     fn create_next(&mut self) -> io::Result<Self> {
-        if let Err(error) = self.begin(FileCall::CreateNext) {
-            return Err(error);
-        }
+        self.begin(FileCall::CreateNext)?;
         let bytes = Vec::new(*self.bytes.allocator());
         Ok(MemoryFile::new(bytes, Vec::new(*self.bytes.allocator())))
     }
 
     fn keep(&mut self, _suffix: &str) -> io::Result<()> {
-        match self.begin(FileCall::Keep) {
-            Ok(_) => Ok(()),
-            Err(error) => Err(error),
-        }
+        self.begin(FileCall::Keep)?;
+        Ok(())
     }
 
     fn replace(&mut self, next: Self) -> io::Result<()> {
-        if let Err(error) = self.begin(FileCall::Replace) {
-            return Err(error);
-        }
+        self.begin(FileCall::Replace)?;
         self.bytes = next.bytes;
         self.synced = next.synced;
         Ok(())

@@ -4,3 +4,4 @@ pub mod FailLemmas
 pub mod DecisionLemmas
 pub mod RenewLemmas
 pub mod ReplayLemmas
+pub mod VerifyLemmas

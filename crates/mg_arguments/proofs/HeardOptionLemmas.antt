@@ -12,11 +12,11 @@ use Rattle.mg_heard.specs.declared.format.Format.{Format}
 use Rattle.mg_heard.specs.declared.format.Format.TheVariants as formats
 use Rattle.mg_heard.specs.declared.asked.Asked.{Asked}
 use Rattle.mg_heard.specs.declared.asked_query.AskedQuery.{AskedQuery}
-use Rattle.mg_arguments.specs.declared.file_path_fault.FilePathFault.{FilePathFault}
+use Rattle.mg_service.specs.declared.file_path_fault.FilePathFault.{FilePathFault}
 use Rattle.mg_arguments.specs.declared.heard_request.HeardRequest.{HeardRequest}
 use Rattle.mg_arguments.specs.declared.invocation.Invocation.{Invocation}
 use Rattle.mg_arguments.specs.declared.printing.Printing.{Printing}
-use Rattle.mg_arguments.specs.FilePath.{file_path}
+use Rattle.mg_service.specs.FilePath.{file_path}
 use Rattle.mg_arguments.specs.Options.{asked_in, form_in, format_of, is_set, later_in, named_by, printing_in, query_in, request_in, reshapes_page, valid, value_by}
 use Rattle.mg_arguments.specs.ZoneName.{zone_name}
 use Rattle.mg_arguments.specs.aids.Options.{PathsAre, Refuses}

@@ -25,11 +25,11 @@ use Rattle.mg_arguments.specs.declared.invocation.Invocation.{Invocation}
 use Rattle.mg_arguments.specs.declared.invocation.Invocation.TheVariants.{Check}
 use Rattle.mg_core.specs.Peer.{peer_of}
 use Rattle.mg_words.specs.declared.peer.Peer.{Peer}
-use Rattle.mg_arguments.specs.declared.address.AddressFault.{AddressFault}
-use Rattle.mg_arguments.specs.declared.service.Service.{Service}
-use Rattle.mg_arguments.specs.declared.config_options.ConfigOptions.{ConfigOptions}
-use Rattle.mg_arguments.specs.Address.{own_address}
-use Rattle.mg_arguments.specs.ConfigOptions.{config_of}
+use Rattle.mg_service.specs.declared.address.AddressFault.{AddressFault}
+use Rattle.mg_service.specs.declared.service.Service.{Service}
+use Rattle.mg_service.specs.declared.config_options.ConfigOptions.{ConfigOptions}
+use Rattle.mg_service.specs.Address.{own_address}
+use Rattle.mg_service.specs.ConfigOptions.{config_of}
 use Rattle.mg_arguments.specs.Options.{check_in, command_line, gateway_in, heard_options, named_by, options, options_in, requested, run_in, run_of, service_in, valid}
 
 abbrev has_kinds : Kinds → Bool

@@ -7,10 +7,10 @@ use Rattle.mg_words.specs.Address.{address_of}
 use Rattle.mg_core.specs.declared.shown.Shown.TheVariants.{Sent, SentAndFlows}
 use Rattle.mg_engine.specs.Config.{standard}
 use Rattle.mg_arguments.specs.declared.invocation.Invocation.TheVariants.{Replay, Serve, Live}
-use Rattle.mg_arguments.specs.declared.service.Service.{Service}
+use Rattle.mg_service.specs.declared.service.Service.{Service}
 use Rattle.mg_journal.specs.declared.durability.Durability.TheVariants.{Written, Synced}
-use Rattle.mg_arguments.specs.declared.config_options.ConfigOptions.{ConfigOptions}
-use Rattle.mg_arguments.specs.ConfigOptions.{config_or}
+use Rattle.mg_service.specs.declared.config_options.ConfigOptions.{ConfigOptions}
+use Rattle.mg_service.specs.ConfigOptions.{config_or}
 use Rattle.mg_arguments.specs.Options.{requested, command_line, heard_options, options}
 
 abbrev slots : Text → List Text

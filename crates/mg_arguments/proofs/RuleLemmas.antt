@@ -6,12 +6,12 @@ use Rattle.clap.specs.Kinds.{Kinds}
 use Rattle.clap.specs.declared.error.kind.ErrorKind.TheVariants.{ValueValidation}
 use Rattle.mg_words.specs.ResultSteps.{◌>>=◌}
 use Rattle.mg_heard.specs.declared.asked_rule.AskedRule.{AskedRule}
-use Rattle.mg_arguments.specs.declared.file_path_fault.FilePathFault.{FilePathFault}
+use Rattle.mg_service.specs.declared.file_path_fault.FilePathFault.{FilePathFault}
 use Rattle.mg_arguments.specs.declared.invocation.Invocation.{Invocation}
 use Rattle.mg_arguments.specs.declared.invocation.Invocation.TheVariants.{Watch}
 use Rattle.mg_arguments.specs.declared.printing.Printing.{Printing}
 use Rattle.mg_arguments.specs.declared.rule_fault.RuleFault.{RuleFault}
-use Rattle.mg_arguments.specs.FilePath.{file_path}
+use Rattle.mg_service.specs.FilePath.{file_path}
 use Rattle.mg_arguments.specs.Options.{later_in, named_by, printing_in, rules_in, selects_part, valid, watch_in}
 use Rattle.mg_arguments.specs.aids.Options.{PathsAre, Refuses}
 use Rattle.mg_arguments.specs.declared.option_fault.OptionFault.{OptionFault}

@@ -4,12 +4,12 @@ use Rattle.clap.specs.Walk.{Row, Text}
 use Rattle.clap.specs.Kinds.{Kinds}
 use Rattle.clap.specs.declared.error.kind.ErrorKind.TheVariants.{ValueValidation}
 use Rattle.mg_words.specs.ResultSteps.{◌>>=◌}
-use Rattle.mg_arguments.specs.declared.file_path_fault.FilePathFault.{FilePathFault}
+use Rattle.mg_service.specs.declared.file_path_fault.FilePathFault.{FilePathFault}
 use Rattle.mg_arguments.specs.declared.invocation.Invocation.{Invocation}
 use Rattle.mg_arguments.specs.declared.invocation.Invocation.TheVariants.{Verify}
 use Rattle.mg_arguments.specs.declared.option_fault.OptionFault.{OptionFault}
 use Rattle.mg_arguments.specs.declared.option_fault.OptionFault.TheVariants.{Invalid, NoMemory}
-use Rattle.mg_arguments.specs.FilePath.{file_path}
+use Rattle.mg_service.specs.FilePath.{file_path}
 use Rattle.mg_arguments.specs.Options.{later_in, named_by, valid, verify_in}
 use Rattle.mg_arguments.specs.aids.Options.{PathsAre, Refuses}
 

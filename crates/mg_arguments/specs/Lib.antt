@@ -1,12 +1,4 @@
-pub mod Address
-pub mod Read
-pub mod Controllers
 pub mod Rules
 pub mod ZoneName
-pub mod ConfigOptions
 pub mod Options
-pub mod Title
-pub mod Script
-pub mod FilePath
-pub mod Setup
 pub mod aids

@@ -30,20 +30,20 @@ use Rattle.mg_engine.specs.declared.config.Config.{Config}
 use Rattle.mg_journal.specs.declared.durability.Durability.{Durability}
 use Rattle.mg_journal.specs.declared.durability.Durability.TheVariants.{Written, Synced}
 use Rattle.mg_arguments.specs.declared.printing.Printing.{Printing}
-use Rattle.mg_arguments.specs.declared.config_options.ConfigOptions.{ConfigOptions}
-use Rattle.mg_arguments.specs.ConfigOptions.{config_of}
+use Rattle.mg_service.specs.declared.config_options.ConfigOptions.{ConfigOptions}
+use Rattle.mg_service.specs.ConfigOptions.{config_of}
 use Rattle.mg_arguments.specs.declared.heard_request.HeardRequest.{HeardRequest}
 use Rattle.mg_arguments.specs.declared.invocation.Invocation.{Invocation}
 use Rattle.mg_arguments.specs.declared.invocation.Invocation.TheVariants.{Replay, Serve, Live, Check}
 use Rattle.mg_arguments.specs.declared.invocation.Invocation.TheVariants.{Heard, Watch, Audible}
 use Rattle.mg_arguments.specs.declared.invocation.Invocation.TheVariants.{Verify, Seal}
-use Rattle.mg_arguments.specs.declared.service.Service.{Service}
-use Rattle.mg_arguments.specs.declared.controller_fault.ControllerFault.{ControllerFault}
-use Rattle.mg_arguments.specs.Address.{bind_addresses_of, own_address}
-use Rattle.mg_arguments.specs.Controllers.{controllers_of}
-use Rattle.mg_arguments.specs.FilePath.{file_path}
-use Rattle.mg_arguments.specs.Read.{all_read}
-use Rattle.mg_arguments.specs.declared.file_path_fault.FilePathFault.{FilePathFault}
+use Rattle.mg_service.specs.declared.service.Service.{Service}
+use Rattle.mg_service.specs.declared.controller_fault.ControllerFault.{ControllerFault}
+use Rattle.mg_service.specs.Address.{bind_addresses_of, own_address}
+use Rattle.mg_service.specs.Controllers.{controllers_of}
+use Rattle.mg_service.specs.FilePath.{file_path}
+use Rattle.mg_service.specs.Read.{all_read}
+use Rattle.mg_service.specs.declared.file_path_fault.FilePathFault.{FilePathFault}
 use Rattle.mg_arguments.specs.declared.rule_fault.RuleFault.{RuleFault}
 use Rattle.mg_arguments.specs.Rules.{rules_of}
 use Rattle.mg_arguments.specs.ZoneName.{zone_name}

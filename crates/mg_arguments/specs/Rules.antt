@@ -2,7 +2,7 @@
 use Rattle.std.specs.Prelude.{ℕ, Bool, nat_lt, List, length, ok_or, Result, Err, if◌then◌else◌}
 use Rattle.mg_heard.specs.Asked.{rule_by}
 use Rattle.mg_heard.specs.declared.asked_rule.AskedRule.{AskedRule}
-use Rattle.mg_arguments.specs.Read.{all_read}
+use Rattle.mg_service.specs.Read.{all_read}
 use Rattle.mg_arguments.specs.declared.rule_fault.RuleFault.{RuleFault}
 use Rattle.mg_arguments.specs.declared.rule_fault.RuleFault.TheVariants.{Unreadable, TooMany}
 

@@ -1,10 +1,10 @@
 ghost use Rattle.std.specs.Prelude.{◌≡◌, ◌≢◌, [], MatchBool, drop, map};
-ghost use Rattle.mg_arguments.specs.FilePath.{file_path};
-ghost use Rattle.mg_arguments.specs.Read.{all_read};
+ghost use Rattle.mg_service.specs.FilePath.{file_path};
+ghost use Rattle.mg_service.specs.Read.{all_read};
 ghost use Rattle.mg_arguments.specs.aids.Options.{PathsAre};
 
-use crate::file_path::FilePath;
 use crate::option_fault::OptionFault;
+use mg_service::FilePath;
 use std::alloc::Global;
 use std::marker::Model;
 

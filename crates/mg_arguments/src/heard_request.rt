@@ -1,8 +1,8 @@
-use crate::file_path::FilePath;
 use crate::file_paths::FilePaths;
 use crate::printing::Printing;
 use mg_dates::Date;
 use mg_heard::AskedQuery;
+use mg_service::FilePath;
 
 /// A question about a script: a journal or a recording.
 #[derive(Drop)]

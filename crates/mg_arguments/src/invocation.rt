@@ -1,10 +1,9 @@
 use crate::audible_request::AudibleRequest;
-use crate::file_path::FilePath;
 use crate::file_paths::FilePaths;
 use crate::heard_request::HeardRequest;
-use crate::service::Service;
 use crate::watch_request::WatchRequest;
 use mg_core::{Config, Peer, Shown};
+use mg_service::{FilePath, Service};
 
 /// The run that the program's arguments request.
 #[derive(Drop)]

@@ -6,31 +6,26 @@ ghost use Rattle.mg_core.specs.Peer.{peer_of};
 ghost use Rattle.mg_options.specs.Requested.{IsRefused};
 ghost use Rattle.mg_options.specs.Line.{text_rule};
 ghost use Rattle.mg_options.specs.Numbers.{number_or};
-ghost use Rattle.mg_arguments.specs.Address.{bind_addresses_of, own_address};
-ghost use Rattle.mg_arguments.specs.FilePath.{file_path};
+ghost use Rattle.mg_service.specs.Address.{bind_addresses_of, own_address};
+ghost use Rattle.mg_service.specs.FilePath.{file_path};
 ghost use Rattle.mg_arguments.specs.aids.Options.{IsInvalid, Refuses};
 ghost use Rattle.mg_arguments.specs.Options.{requested, command_line, controllers_in, options_in, repeated_rule};
 ghost use Rattle.mg_arguments.specs.Options.{check_in, check_line, flag_rule, is_set, live_line, options, replay_line, run_of};
 ghost use Rattle.mg_arguments.specs.Options.{durability_in, fence_in, gateway_in, named_by, gateway_rule, is_given, run_in, service_in, sockets_line, subcommand_line};
 
-use crate::address::{AddressFault, own_address};
-use crate::bind_address_fault::BindAddressFault;
-use crate::bind_addresses::BindAddresses;
-use crate::config_options::ConfigOptions;
-use crate::controller_fault::ControllerFault;
-use crate::controllers::Controllers;
-use crate::file_path::FilePath;
-use crate::file_path_fault::FilePathFault;
 use crate::heard_options::{heard_command, script_in};
 use crate::invocation::Invocation;
 use crate::option_fault::OptionFault;
 use crate::sealing_options::{seal_command, verify_command, verify_in};
-use crate::service::Service;
 use clap::error::ErrorKind;
 use clap::{Arg, ArgAction, ArgMatches, Command, Error};
 use mg_core::{Config, Peer, Shown, peer_of};
 use mg_journal::Durability;
 use mg_options::{long_number, long_value, program_command, short_number, short_value};
+use mg_service::{
+    AddressFault, BindAddressFault, BindAddresses, ConfigOptions, ControllerFault, Controllers,
+    FilePath, FilePathFault, Service, own_address,
+};
 use std::alloc::{AllocError, Global};
 use std::convert::AsStr;
 

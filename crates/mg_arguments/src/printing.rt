@@ -1,6 +1,6 @@
-use crate::file_path::FilePath;
 use crate::zone_name::ZoneName;
 use mg_heard::Format;
+use mg_service::FilePath;
 
 /// The style in which answers about a script are printed.
 #[derive(Drop)]

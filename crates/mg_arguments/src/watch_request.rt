@@ -1,7 +1,7 @@
-use crate::file_path::FilePath;
 use crate::file_paths::FilePaths;
 use crate::printing::Printing;
 use crate::rules::Rules;
+use mg_service::FilePath;
 
 /// A request to check whether a script obeys rules.
 #[derive(Drop)]

@@ -13,8 +13,8 @@ use Rattle.mg_core.specs.World.{World, start_of}
 use Rattle.mg_core.specs.aids.Stands.{StandsFor}
 use Rattle.mg_core.specs.declared.state.CoreState.{CoreState}
 use Rattle.mg_engine.specs.declared.config.Config.{Config}
-use Rattle.mg_arguments.specs.Script.{HasScript}
-use Rattle.mg_arguments.specs.Title.{title_line}
+use Rattle.mg_service.specs.Script.{HasScript}
+use Rattle.mg_service.specs.Title.{title_line}
 use Rattle.mg_hearing.specs.aids.Beginning.{BeginsWith, HasBegunWith}
 
 -- ## The title

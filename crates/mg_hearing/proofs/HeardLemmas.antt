@@ -36,8 +36,8 @@ use Rattle.mg_hearing.specs.declared.start.Start.{Start}
 use Rattle.mg_hearing.proofs.ReadLemmas.{reads_files}
 use Rattle.mg_hearing.proofs.BeginningLemmas.{has_script, is_titled, read_script, script_of}
 use Rattle.mg_arguments.specs.declared.heard_request.HeardRequest.{HeardRequest}
-use Rattle.mg_arguments.specs.Title.{title_line}
-use Rattle.mg_arguments.specs.Title.{title_text}
+use Rattle.mg_service.specs.Title.{title_line}
+use Rattle.mg_service.specs.Title.{title_text}
 
 -- ## The first line
 

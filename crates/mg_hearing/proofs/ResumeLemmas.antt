@@ -7,7 +7,7 @@ use Rattle.mg_checkpoint.specs.Checkpoint.{checkpoint_text, without_speech}
 use Rattle.mg_core.specs.Base.{IsBase}
 use Rattle.mg_core.specs.World.{World}
 use Rattle.mg_engine.specs.declared.config.Config.{Config}
-use Rattle.mg_arguments.specs.Title.{title_line}
+use Rattle.mg_service.specs.Title.{title_line}
 use Rattle.mg_hearing.specs.Resumed.{BeginsWithCheckpoint}
 use Rattle.mg_hearing.specs.aids.Beginning.{HasBegunWith, LeavesBase}
 

@@ -25,8 +25,8 @@ use Rattle.mg_options.specs.declared.status.Status.{Status}
 use Rattle.mg_options.specs.declared.status.Status.TheVariants.{Done, CouldNotHear, Unknown}
 use Rattle.mg_arguments.specs.declared.heard_request.HeardRequest.{HeardRequest}
 use Rattle.mg_arguments.specs.declared.printing.Printing.{Printing}
-use Rattle.mg_arguments.specs.Script.{HasScript}
-use Rattle.mg_arguments.specs.Title.{title_line}
+use Rattle.mg_service.specs.Script.{HasScript}
+use Rattle.mg_service.specs.Title.{title_line}
 use Rattle.mg_hearing.specs.declared.question.Question.{Question}
 use Rattle.mg_hearing.specs.Absence.{absences}
 use Rattle.mg_hearing.specs.Page.{WritesPage, script_name}

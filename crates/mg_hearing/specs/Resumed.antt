@@ -2,7 +2,7 @@
 use Rattle.std.specs.Prelude.{ℕ, List, ◌++◌, Option, IfSome, codes}
 use Rattle.std.specs.Io.{StartsWith}
 use Rattle.mg_engine.specs.declared.config.Config.{Config}
-use Rattle.mg_arguments.specs.Title.{title_line}
+use Rattle.mg_service.specs.Title.{title_line}
 
 -- A text begins with the title of some gateway and the first words of a checkpoint.
 abbrev pub BeginsWithCheckpoint : Option (List ℕ) → Type 0

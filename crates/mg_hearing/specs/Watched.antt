@@ -12,8 +12,8 @@ use Rattle.mg_heard.specs.Never.{IsWatched, WritesViolation}
 use Rattle.mg_options.specs.declared.status.Status.{Status}
 use Rattle.mg_options.specs.declared.status.Status.TheVariants.{Done, RuleBroken}
 use Rattle.mg_arguments.specs.declared.watch_request.WatchRequest.{WatchRequest}
-use Rattle.mg_arguments.specs.Script.{HasScript}
-use Rattle.mg_arguments.specs.Title.{title_line}
+use Rattle.mg_service.specs.Script.{HasScript}
+use Rattle.mg_service.specs.Title.{title_line}
 use Rattle.mg_hearing.specs.Absence.{absences}
 use Rattle.mg_hearing.specs.Heard.{IsStyle}
 use Rattle.mg_hearing.specs.Page.{script_name}

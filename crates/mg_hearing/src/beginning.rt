@@ -38,7 +38,7 @@ pub(crate) fn begin<R: Read>(alloc: Global, reader: &mut R) -> Result<Beginning,
     ensures value { IfOk result (λ begun.
         HasBegun begun.start begun.front.items (R.remaining reader.old) (R.remaining reader.new)) }
 {
-    let (mut front, config) = read_title(alloc, reader)?;
+    let (mut front, config) = read_title(reader)?;
     match read_behind(alloc, reader) {
         Ok(Behind::Script(bytes)) => {
             // A title's line is short, so there is room.

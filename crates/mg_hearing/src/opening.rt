@@ -4,9 +4,9 @@ ghost use Rattle.std.specs.Prelude.{◌∷◌, IfOk, OnOk, map};
 ghost use Rattle.std.specs.Io.Buffered.{reader_remaining};
 ghost use Rattle.mg_hearing.specs.aids.Opening.{OpensAll, OpensMore};
 
-use mg_arguments::FilePath;
 use mg_host::Texts;
 use mg_joined::JoinFault;
+use mg_service::FilePath;
 use std::alloc::Global;
 use std::collections::VecDeque;
 use std::io::BufReader;

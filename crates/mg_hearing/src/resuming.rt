@@ -2,7 +2,7 @@
 
 ghost use Rattle.std.specs.Prelude.{◌≡◌, ◌++◌, IfOk, codes, true};
 ghost use Rattle.std.specs.Io.KnownBytes.{Keeps};
-ghost use Rattle.mg_arguments.specs.Title.{title_line};
+ghost use Rattle.mg_service.specs.Title.{title_line};
 ghost use Rattle.mg_core.specs.World.{World};
 ghost use Rattle.mg_core.specs.aids.Stands.{StandsFor};
 ghost use Rattle.mg_engine.specs.declared.config.Config.{Config};
@@ -59,24 +59,24 @@ fn look_for_checkpoint<R: LookAhead>(reader: &mut R)
     }
 }
 
-/// Returns whether these bytes are a title and the first words of a checkpoint, or `false` if memory runs out.
-fn is_title_and_words(alloc: Global, seen: &[u8]) -> bool
+/// Returns whether these bytes are a title and the first words of a checkpoint.
+fn is_title_and_words(seen: &[u8]) -> bool
     ensures value { result ≡ true → (config : Config) × (seen.now ≡ title_line config ++ codes "checkpoint after ") }
 {
     match seen.strip_suffix(WORDS) {
-        Some(line) => config_in(alloc, line).is_some(),
+        Some(line) => config_in(line).is_some(),
         None => false,
     }
 }
 
 /// Returns whether the bytes of a reader begin with a title and the first words of a checkpoint. All bytes can still be
-/// read. Returns `false` also if a read fails or memory runs out.
-pub fn begins_with_checkpoint<R: LookAhead>(alloc: Global, reader: &mut R) -> bool
+/// read. Returns `false` also if a read fails.
+pub fn begins_with_checkpoint<R: LookAhead>(reader: &mut R) -> bool
     ensures unread { Keeps (R.remaining reader.old) (R.remaining reader.new) }
     ensures begins { result ≡ true → BeginsWithCheckpoint (R.remaining reader.new) }
 {
     look_for_checkpoint(reader);
-    is_title_and_words(alloc, reader.seen())
+    is_title_and_words(reader.seen())
 }
 
 /// Converts the reason why the beginning of a script was not read. Only its title and its checkpoint were read.

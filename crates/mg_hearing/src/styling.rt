@@ -2,10 +2,11 @@ ghost use Rattle.std.specs.Prelude.{◌≡◌, ◌⊎◌, [], IfErr, IfOk, None,
 ghost use Rattle.mg_hearing.specs.Heard.{IsStyle};
 
 use crate::names_file::read_names;
-use mg_arguments::{FilePath, Printing, ZoneName};
+use mg_arguments::{Printing, ZoneName};
 use mg_dates::Zone;
 use mg_heard::{NameFault, Names, Style};
 use mg_options::Status;
+use mg_service::FilePath;
 use std::alloc::Global;
 use std::fs::{Files, OpenOptions};
 use std::io::Write;

@@ -7,10 +7,11 @@ ghost use Rattle.mg_hearing.specs.Page.{last_words, party_word, quoted, script_n
 
 use crate::escaping::{escaped, quoted};
 use crate::faults::INPUT;
-use mg_arguments::{FilePath, FilePaths, HeardRequest, Printing};
+use mg_arguments::{FilePaths, HeardRequest, Printing};
 use mg_bytes::Bytes;
 use mg_dates::{Date, TimeText};
 use mg_heard::{Asked, PartyName};
+use mg_service::FilePath;
 use std::alloc::{AllocError, Global};
 
 /// The maximum length of a key, in bytes.

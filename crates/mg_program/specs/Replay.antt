@@ -1,6 +1,6 @@
 -- The effect of running a script.
 use Rattle.std.specs.Prelude.{◌≡◌, ◌⊎◌, ◌↔◌, ℕ, List, Option, Result, Err}
-use Rattle.mg_arguments.specs.Script.{HasScript}
+use Rattle.mg_service.specs.Script.{HasScript}
 use Rattle.mg_engine.specs.declared.config.Config.{Config}
 use Rattle.mg_core.specs.World.{World}
 use Rattle.mg_core.specs.declared.counts.Counts.{Counts}

@@ -18,9 +18,9 @@ use Rattle.mg_serve.specs.Serve.{ClockCommands, ReadCommands, Served, form_of}
 use Rattle.mg_host.specs.declared.host_call.HostCall.{HostCall}
 use Rattle.mg_host.specs.declared.host_call.HostCall.TheVariants.{Bind, BindAlso}
 use Rattle.mg_host.specs.HostCalls.{Grows, IsLogged, port_calls}
-use Rattle.mg_arguments.specs.declared.service.Service.{Service}
-use Rattle.mg_arguments.specs.Setup.{setup_of}
-use Rattle.mg_arguments.specs.Title.{title_if}
+use Rattle.mg_service.specs.declared.service.Service.{Service}
+use Rattle.mg_service.specs.Setup.{setup_of}
+use Rattle.mg_service.specs.Title.{title_if}
 use Rattle.mg_start.specs.Journal.{RunsNoSession}
 use Rattle.mg_start.specs.Start.{FailsToStart, Finds, HasStarted, IsChosen, Opens}
 use Rattle.mg_options.specs.declared.status.Status.{Status}

@@ -1,10 +1,10 @@
 //! The lines about itself that a gateway prints when it starts.
 
 use arrayvec::ArrayVec;
-use mg_arguments::Service;
 use mg_core::Config;
 use mg_journal::Durability;
 use mg_options::VERSION;
+use mg_service::Service;
 use std::io::Write;
 use std::net::Ipv4Addr;
 

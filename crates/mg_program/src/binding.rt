@@ -8,10 +8,10 @@ ghost use Rattle.mg_program.specs.Serve.{binds_of};
 ghost use Rattle.mg_program.specs.aids.Binding.{IsPortOf, first_binds, other_binds};
 
 use crate::bind_fault::BindFault;
-use mg_arguments::{BindAddresses, ConfigFault};
 use mg_core::{Config, RunFault};
 use mg_host::Sockets;
 use mg_options::Status;
+use mg_service::{BindAddresses, ConfigFault};
 use std::io::{ErrorKind, Write};
 use std::net::Ipv4Addr;
 

@@ -1,6 +1,6 @@
 use arrayvec::{ArrayString, ArrayVec};
-use mg_arguments::FilePath;
 use mg_monitor::Sink;
+use mg_service::FilePath;
 use std::fs::{self, Files};
 use std::io::{self, ErrorKind, Write};
 

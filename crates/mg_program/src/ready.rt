@@ -12,9 +12,9 @@ ghost use Rattle.mg_program.specs.Serve.{binds_of};
 
 use crate::binding::bind;
 use crate::metrics_file::{can_write_metrics, replaces_journal};
-use mg_arguments::Service;
 use mg_host::{Environment, Journals, System};
 use mg_options::Status;
+use mg_service::Service;
 use mg_start::{Gateway, KeptJournal, Prepared, begin_journal};
 use std::fs::Files;
 use std::io::Write;

@@ -12,7 +12,6 @@ use mg_core::{Config, Counts, RunFault, Shown, run, run_from};
 use mg_hearing::{LookAhead, ResumeFault, begins_with_checkpoint, resume};
 use mg_host::{Environment, Outside, System};
 use mg_options::Status;
-use std::alloc::Global;
 use std::io::Write;
 
 /// Returns the outcome of a run that had this outcome behind some lines of the input: a fault's line is counted from
@@ -51,7 +50,7 @@ fn report_unresumed<E: Write>(fault: ResumeFault, errors: &mut E) -> Status
 }
 
 /// Returns whether the input begins with a title and a checkpoint. If the configuration is invalid, nothing is read.
-fn is_renewed<R: LookAhead>(alloc: Global, config: Config, input: &mut R) -> bool
+fn is_renewed<R: LookAhead>(config: Config, input: &mut R) -> bool
     ensures unread { Keeps (R.remaining input.old) (R.remaining input.new) }
     ensures valid { result ≡ true → IsValidConfig config }
     ensures begins { result ≡ true → BeginsWithCheckpoint (R.remaining input.new) }
@@ -59,7 +58,7 @@ fn is_renewed<R: LookAhead>(alloc: Global, config: Config, input: &mut R) -> boo
     if !config.is_sound() {
         return false;
     }
-    begins_with_checkpoint(alloc, input)
+    begins_with_checkpoint(input)
 }
 
 /// Runs the script behind the checkpoint in the input, as [`replay`] does.
@@ -107,7 +106,7 @@ where
     ensures quiet { result ≡ Status.Done → outside.new.errors ≡ outside.old.errors }
     ensures host { outside.new.host ≡ outside.old.host }
 {
-    if is_renewed(system.alloc, config, &mut outside.input) {
+    if is_renewed(config, &mut outside.input) {
         return replay_behind(system, outside, config, shown);
     }
     let outcome = run(

@@ -5,10 +5,10 @@ ghost use Rattle.mg_program.specs.Decisions.{IsUnusable, MayCall, knows};
 ghost use Rattle.mg_program.specs.aids.Doing.{DoesCalls};
 
 use crate::send_fault::SendFault;
-use mg_arguments::is_multicast;
 use mg_core::Peer;
 use mg_host::{Sockets, Unsent};
 use mg_ports::{FailureCauses, PortFault, Timing};
+use mg_service::is_multicast;
 
 /// Returns whether no caller can have this address: it is 0.0.0.0, or a multicast, reserved or broadcast address. The
 /// address 0.0.0.0 puts a call on hold; a packet to it would reach this machine itself.

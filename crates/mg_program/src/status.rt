@@ -1,9 +1,9 @@
 ghost use Rattle.std.specs.Prelude.{◌≡◌};
 ghost use Rattle.mg_program.specs.Status.{status_of};
 
-use mg_arguments::ConfigFault;
 use mg_core::{Config, Counts, RunFault};
 use mg_options::Status;
+use mg_service::ConfigFault;
 use std::io::Write;
 
 /// Returns the exit status after a run.

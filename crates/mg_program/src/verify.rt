@@ -3,10 +3,10 @@ ghost use Rattle.mg_options.specs.Status.{UnlessFault};
 ghost use Rattle.mg_program.specs.Verify.{AreVerified, IsVerifiedFrom};
 ghost use Rattle.mg_program.specs.aids.Verifying.{IsNext, UnlessErr, end_status, validity_of};
 
-use mg_arguments::FilePath;
 use mg_host::{Environment, Outside, Texts};
 use mg_options::Status;
 use mg_sealing::{Series, verify_input, verify_text};
+use mg_service::FilePath;
 use std::alloc::Global;
 use std::io::Write;
 

@@ -7,7 +7,7 @@ use Rattle.mg_journal.specs.declared.append_fault.AppendFault.{AppendFault}
 use Rattle.mg_journal.specs.declared.durability.Durability.TheVariants.{Written, Synced}
 use Rattle.mg_journal.specs.Journal.{JournalState, appended}
 use Rattle.mg_host.specs.declared.host_call.HostCall.{HostCall}
-use Rattle.mg_arguments.specs.Title.{title_line}
+use Rattle.mg_service.specs.Title.{title_line}
 use Rattle.mg_start.specs.Journal.{start_lines}
 use Rattle.mg_start.specs.aids.Starting.{HasBegun, HasWritten, title_before}
 use Rattle.mg_start.proofs.JournalLemmas.{begins, known_none}

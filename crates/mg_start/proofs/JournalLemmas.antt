@@ -10,8 +10,8 @@ use Rattle.mg_journal.proofs.TextLemmas.{ends_line}
 use Rattle.mg_core.specs.Counted.{ticks_line}
 use Rattle.mg_start.specs.Journal.{fence_comment, missed_lines, start_lines}
 use Rattle.mg_start.specs.aids.Starting.{HasBegun}
-use Rattle.mg_arguments.specs.Title.{title_line}
-use Rattle.mg_arguments.specs.Title.{title_text}
+use Rattle.mg_service.specs.Title.{title_line}
+use Rattle.mg_service.specs.Title.{title_text}
 
 pub known_none : (text : Option (List ℕ)) → append_known text [] ≡ text
 known_none None = refl

@@ -16,9 +16,9 @@ use Rattle.mg_dates.specs.declared.timeline.Timeline.{Timeline}
 use Rattle.mg_dates.specs.Times.{timeline_of}
 use Rattle.mg_engine.specs.declared.config.Config.{Config}
 use Rattle.mg_fence.specs.Reached.{Reaches}
-use Rattle.mg_arguments.specs.Title.{title_line}
+use Rattle.mg_service.specs.Title.{title_line}
 use Rattle.mg_start.specs.aids.Starting.{CanResume, IsRestored}
-use Rattle.mg_arguments.specs.Script.{HasScript}
+use Rattle.mg_service.specs.Script.{HasScript}
 use Rattle.mg_start.proofs.StartLemmas.{resumes_from}
 
 -- If one text was read and then another, both were read.

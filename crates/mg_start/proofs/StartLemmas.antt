@@ -33,12 +33,12 @@ use Rattle.mg_journal.specs.Text.{whole_lines}
 use Rattle.mg_host.specs.declared.host_call.HostCall.{HostCall}
 use Rattle.mg_host.specs.declared.host_call.HostCall.TheVariants.{ReadDate}
 use Rattle.mg_host.specs.HostCalls.{Grows, IsLogged}
-use Rattle.mg_arguments.specs.declared.config_options.ConfigOptions.{ConfigOptions}
-use Rattle.mg_arguments.specs.ConfigOptions.{IsDrawn, config_or}
-use Rattle.mg_arguments.specs.Title.{title_line, title_text}
+use Rattle.mg_service.specs.declared.config_options.ConfigOptions.{ConfigOptions}
+use Rattle.mg_service.specs.ConfigOptions.{IsDrawn, config_or}
+use Rattle.mg_service.specs.Title.{title_line, title_text}
 use Rattle.mg_start.specs.Journal.{missed_after, start_lines, timeline_after}
 use Rattle.mg_start.specs.aids.Starting.{HasBegun, HasWritten, KeepsTimes, PassesTicks, missed_by, title_before, CanResume, CanStart}
-use Rattle.mg_arguments.specs.Script.{HasScript}
+use Rattle.mg_service.specs.Script.{HasScript}
 use Rattle.mg_start.specs.Start.{IsChosen, started_text}
 use Rattle.mg_start.proofs.LogLemmas.{grows_both}
 

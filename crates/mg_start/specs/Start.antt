@@ -21,10 +21,10 @@ use Rattle.mg_host.specs.HostCalls.{Grows, IsLogged}
 use Rattle.mg_options.specs.declared.status.Status.{Status}
 use Rattle.mg_options.specs.declared.status.Status.TheVariants.{Usage, Failed, NoMemory}
 use Rattle.mg_options.specs.declared.status.Status.TheVariants.{NoPort, BadJournal}
-use Rattle.mg_arguments.specs.declared.config_options.ConfigOptions.{ConfigOptions}
-use Rattle.mg_arguments.specs.ConfigOptions.{IsDrawn, config_or}
-use Rattle.mg_arguments.specs.Script.{HasScript}
-use Rattle.mg_arguments.specs.Title.{title_line}
+use Rattle.mg_service.specs.declared.config_options.ConfigOptions.{ConfigOptions}
+use Rattle.mg_service.specs.ConfigOptions.{IsDrawn, config_or}
+use Rattle.mg_service.specs.Script.{HasScript}
+use Rattle.mg_service.specs.Title.{title_line}
 use Rattle.mg_start.specs.Journal.{Writes, missed_after, start_lines}
 
 -- The exit status of a run that didn't start. It is `Usage` only if the configuration isn't valid, and `NoPort` only if

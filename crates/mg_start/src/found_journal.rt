@@ -7,7 +7,7 @@ ghost use Rattle.mg_host.specs.declared.host_call.HostCall.{HostCall};
 ghost use Rattle.mg_host.specs.declared.host_call.HostCall.TheVariants.{ReadDate};
 ghost use Rattle.mg_host.specs.HostCalls.{Grows};
 ghost use Rattle.mg_start.specs.aids.Starting.{HasBegun, Logs, PassesTicks, missed_by, title_before};
-ghost use Rattle.mg_arguments.specs.Title.{title_line};
+ghost use Rattle.mg_service.specs.Title.{title_line};
 
 use crate::gateway::Gateway;
 use crate::journal_fault::JournalFault;

@@ -1,5 +1,5 @@
-use mg_arguments::Service;
 use mg_core::{Config, Core};
+use mg_service::Service;
 use std::alloc::Global;
 
 /// A gateway that can run, with its options.

@@ -4,8 +4,8 @@ ghost use Rattle.mg_journal.specs.Text.{whole_lines};
 ghost use Rattle.mg_journal.specs.aids.Opened.{text_in};
 ghost use Rattle.mg_chain.specs.Seals.{seals_of};
 ghost use Rattle.mg_engine.specs.Config.{IsValidConfig};
-ghost use Rattle.mg_arguments.specs.ConfigOptions.{config_or};
-ghost use Rattle.mg_arguments.specs.Title.{title_line};
+ghost use Rattle.mg_service.specs.ConfigOptions.{config_or};
+ghost use Rattle.mg_service.specs.Title.{title_line};
 ghost use Rattle.mg_start.specs.aids.Starting.{CanResume, may_be_title};
 
 use crate::faults::{read_fault, run_fault};
@@ -16,11 +16,11 @@ use crate::renewed::{is_renewed, run_renewed};
 use crate::resumed::Resumed;
 use crate::title::FRONT;
 use memchr::memchr;
-use mg_arguments::{ConfigFault, ConfigOptions, titled};
 use mg_chain::read_seals;
 use mg_core::{Config, Core, resume};
 use mg_dates::Timeline;
 use mg_journal::{JournalFile, Opening};
+use mg_service::{ConfigFault, ConfigOptions, titled};
 use std::alloc::Global;
 use std::marker::Brand;
 
@@ -80,10 +80,7 @@ fn check_partial<F: JournalFile>(opening: &mut Opening<F>) -> Result<(), Journal
 }
 
 /// Returns the configuration in the title of a journal, or `None` if the journal has no complete line.
-fn config_in<F: JournalFile>(
-    alloc: Global,
-    opening: &mut Opening<F>,
-) -> Result<Option<Config>, JournalFault>
+fn config_in<F: JournalFile>(opening: &mut Opening<F>) -> Result<Option<Config>, JournalFault>
     ensures same { opening.new ≡ opening.old }
     ensures empty { IfOk result (λ config. config ≡ None → IfSome (text_in opening.old.file) (λ text. text ≡ [])) }
     ensures title { IfOk result (λ config. config ≡ None →
@@ -104,7 +101,7 @@ fn config_in<F: JournalFile>(
     let Some(title) = title_in(&buffer[..n]) else {
         return Err(JournalFault::NoTitle);
     };
-    match titled(alloc, title) {
+    match titled(title) {
         Some(config) => Ok(Some(config)),
         None => Err(JournalFault::NoTitle),
     }
@@ -225,7 +222,7 @@ where
         CanResume (text_in opening.file) (Some h.timeline) h.config h.core.state h.reached)) }
 {
     let mut opening = opening;
-    let Some(config) = config_in(alloc, &mut opening)? else {
+    let Some(config) = config_in(&mut opening)? else {
         return Ok(Found {
             opening,
             history: None,

@@ -1,7 +1,7 @@
 ghost use Rattle.std.specs.Prelude.{◌≡◌, ◌⊎◌};
 
-use mg_arguments::{ConfigFault, FilePath};
 use mg_options::Status;
+use mg_service::{ConfigFault, FilePath};
 use std::io::{self, Write};
 use thiserror::Error;
 

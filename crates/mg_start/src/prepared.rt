@@ -4,7 +4,7 @@ ghost use Rattle.mg_engine.specs.Config.{IsValidConfig};
 ghost use Rattle.mg_core.specs.World.{start_of};
 ghost use Rattle.mg_core.specs.aids.Stands.{StandsFor};
 ghost use Rattle.mg_journal.specs.aids.Opened.{text_in};
-ghost use Rattle.mg_arguments.specs.ConfigOptions.{IsDrawn};
+ghost use Rattle.mg_service.specs.ConfigOptions.{IsDrawn};
 ghost use Rattle.mg_start.specs.aids.Starting.{CanResume};
 ghost use Rattle.mg_start.specs.Start.{FailsToStart, Finds, IsChosen, Opens};
 
@@ -13,11 +13,11 @@ use crate::history::{Found, find};
 use crate::journal_fault::JournalFault;
 use crate::requested::Requested;
 use arrayvec::ArrayVec;
-use mg_arguments::{ConfigFault, FilePath, Service};
 use mg_core::{Config, Core, RunFault, StartFault};
 use mg_host::{Environment, Journals, System};
 use mg_journal::{JournalFile, Opening};
 use mg_options::Status;
+use mg_service::{ConfigFault, FilePath, Service};
 use std::io::{self, ErrorKind, Write};
 use std::random::RandomSource;
 

@@ -3,7 +3,7 @@
 ghost use Rattle.std.specs.Prelude.{◌≡◌, ◌≢◌, [], None, Some, IfOk, IfSome, OnOk};
 ghost use Rattle.std.specs.Io.KnownBytes.{Consumes};
 ghost use Rattle.mg_journal.specs.aids.Opened.{text_in};
-ghost use Rattle.mg_arguments.specs.Title.{title_line};
+ghost use Rattle.mg_service.specs.Title.{title_line};
 ghost use Rattle.mg_start.specs.aids.Starting.{CanResume, IsRestored};
 
 use crate::faults::{read_fault, restore_fault, run_fault};

@@ -1,5 +1,5 @@
-use mg_arguments::Service;
 use mg_core::Config;
+use mg_service::Service;
 
 /// A gateway on sockets that an operator requests.
 #[derive(Clone, Copy)]

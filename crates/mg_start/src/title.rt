@@ -1,9 +1,9 @@
 ghost use Rattle.std.specs.Prelude.{◌≡◌, ◌≤◌, ◌+◌, ◌++◌, length};
-ghost use Rattle.mg_arguments.specs.Title.{title_line};
+ghost use Rattle.mg_service.specs.Title.{title_line};
 
 use arrayvec::ArrayVec;
-use mg_arguments::{TITLE_LIMIT, title_of};
 use mg_core::Config;
+use mg_service::{TITLE_LIMIT, title_of};
 
 /// The number of bytes at a journal's start that must contain the title's line and the first words of the next line. A
 /// title has at most 512 bytes.

@@ -1,5 +1,5 @@
-use mg_arguments::MAX_BIND_ADDRESSES;
 use mg_program::SOCKETS;
+use mg_service::MAX_BIND_ADDRESSES;
 use mio::net::UdpSocket;
 use mio::{Events, Interest, Poll, Token};
 use std::alloc::AllocError;

@@ -3,10 +3,10 @@
 use super::equality::assert_equal;
 use super::free_ports;
 use crate::machine::SystemHost;
-use mg_arguments::ConfigOptions;
 use mg_core::Config;
 use mg_host::{Environment, Outside, System};
 use mg_program::{Ahead, Ended, program};
+use mg_service::ConfigOptions;
 use std::cell::Cell;
 use std::io::{self, ErrorKind, Stdin};
 use std::marker::PhantomData;

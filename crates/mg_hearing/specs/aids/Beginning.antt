@@ -2,7 +2,7 @@
 use Rattle.std.specs.Prelude.{◌≡◌, ℕ, List, [], ◌++◌, Option, None, Some}
 use Rattle.std.specs.Option.{option_map}
 use Rattle.std.specs.Io.KnownBytes.{Consumes}
-use Rattle.mg_arguments.specs.Title.{title_line}
+use Rattle.mg_service.specs.Title.{title_line}
 use Rattle.mg_checkpoint.specs.Checkpoint.{checkpoint_text, without_speech}
 use Rattle.mg_core.specs.Base.{IsBase}
 use Rattle.mg_core.specs.World.{World, start_of}

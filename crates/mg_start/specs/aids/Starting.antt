@@ -13,8 +13,8 @@ use Rattle.mg_core.specs.World.{World, world_after_ticks}
 use Rattle.mg_core.specs.aids.Stands.{StandsFor}
 use Rattle.mg_journal.specs.Journal.{JournalState}
 use Rattle.mg_host.specs.declared.host_call.HostCall.{HostCall}
-use Rattle.mg_arguments.specs.Script.{HasScript}
-use Rattle.mg_arguments.specs.Title.{title_line}
+use Rattle.mg_service.specs.Script.{HasScript}
+use Rattle.mg_service.specs.Title.{title_line}
 use Rattle.mg_start.specs.Journal.{RunsNoSession, Writes, start_lines, timeline_after}
 use Rattle.mg_start.specs.Start.{HasStarted, ResumesIn}
 

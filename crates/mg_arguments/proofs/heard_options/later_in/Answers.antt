@@ -2,10 +2,10 @@ use Rattle.std.proofs.Common.{◌≡◌, ◌∙◌, ℕ, List, [], ◌∷◌, Op
 use Rattle.std.specs.Prelude.{unwrap_or}
 use Rattle.clap.specs.Words.{found_of}
 use Rattle.clap.proofs.WalkLemmas.{raw_values-rows}
-use Rattle.mg_arguments.specs.FilePath.{file_path}
-use Rattle.mg_arguments.specs.Read.{all_read}
+use Rattle.mg_service.specs.FilePath.{file_path}
+use Rattle.mg_service.specs.Read.{all_read}
 use Rattle.mg_arguments.specs.aids.Options.{PathsAre}
-use Rattle.mg_arguments.proofs.ReadLemmas.{later_texts}
+use Rattle.mg_service.proofs.ReadLemmas.{later_texts}
 use Rattle.mg_arguments.proofs.heard_options.later_in.Goals as goal
 
 pub returns-in-Some : goal.returns-in-Some

@@ -1,7 +1,7 @@
 use Rattle.std.proofs.Common.{◌∙◌}
 use Rattle.clap.specs.Words.{found_of, rows_of}
 use Rattle.clap.proofs.WalkLemmas.{first_value-rows}
-use Rattle.mg_arguments.specs.Address.{own_address}
+use Rattle.mg_service.specs.Address.{own_address}
 use Rattle.mg_arguments.proofs.InvocationLemmas.{unwritten, value_fails, value_is}
 use Rattle.mg_arguments.proofs.options.address_of.Goals as goal
 

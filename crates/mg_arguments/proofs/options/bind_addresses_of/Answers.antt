@@ -2,7 +2,7 @@ use Rattle.std.proofs.Common.{◌∙◌, ℕ, List, [], Option, ap, codes}
 use Rattle.std.specs.Prelude.{unwrap_or}
 use Rattle.clap.specs.Words.{found_of}
 use Rattle.clap.proofs.WalkLemmas.{raw_values-rows}
-use Rattle.mg_arguments.specs.Address.{bind_addresses_of}
+use Rattle.mg_service.specs.Address.{bind_addresses_of}
 use Rattle.mg_arguments.proofs.options.bind_addresses_of.Goals as goal
 
 pub returns-in-Some : goal.returns-in-Some

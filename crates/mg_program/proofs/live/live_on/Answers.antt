@@ -1,7 +1,7 @@
 use Rattle.std.proofs.Common.{◌≡◌, ℕ, List, Some, None, ap, ◌∙◌}
 use Rattle.std.specs.Prelude.{if◌then◌else◌}
 use Rattle.std.specs.Option.{option_map}
-use Rattle.mg_arguments.specs.Title.{title_if}
+use Rattle.mg_service.specs.Title.{title_if}
 use Rattle.mg_program.proofs.live.live_on.Goals as goal
 
 pub returns-clause-session : goal.returns-clause-session

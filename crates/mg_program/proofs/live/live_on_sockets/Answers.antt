@@ -6,8 +6,8 @@ use Rattle.mg_ports.specs.Journaled.{PortsSeen, ports_seen}
 use Rattle.mg_serve.specs.Serve.{Served, form_of}
 use Rattle.mg_host.specs.declared.host_call.HostCall.{HostCall}
 use Rattle.mg_host.specs.HostCalls.{port_calls}
-use Rattle.mg_arguments.specs.Setup.{setup_of}
-use Rattle.mg_arguments.specs.Title.{title_if}
+use Rattle.mg_service.specs.Setup.{setup_of}
+use Rattle.mg_service.specs.Title.{title_if}
 use Rattle.mg_program.specs.Decisions.{HasDecided, knows}
 use Rattle.mg_program.specs.Serve.{ByClock, Gives}
 use Rattle.mg_program.proofs.FailLemmas.{fault_ran, served_any}

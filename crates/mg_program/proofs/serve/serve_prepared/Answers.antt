@@ -3,7 +3,7 @@ use Rattle.std.specs.Option.{option_map_or}
 use Rattle.mg_journal.specs.Journal.{no_journal}
 use Rattle.mg_journal.specs.aids.Opened.{text_in}
 use Rattle.mg_engine.specs.declared.config.Config.{Config}
-use Rattle.mg_arguments.specs.declared.service.Service.{Service}
+use Rattle.mg_service.specs.declared.service.Service.{Service}
 use Rattle.mg_host.specs.HostCalls.{Grows}
 use Rattle.mg_start.specs.aids.Starting.{CanStart}
 use Rattle.mg_program.specs.Serve.{binds_of}

@@ -1,4 +1,4 @@
-use Rattle.mg_arguments.specs.Title.{title_line}
+use Rattle.mg_service.specs.Title.{title_line}
 use Rattle.mg_start.specs.Journal.{start_lines}
 use Rattle.mg_start.proofs.LogLemmas.{fails_then, logs_both}
 use Rattle.mg_start.proofs.found_journal.append_first.Goals as goal

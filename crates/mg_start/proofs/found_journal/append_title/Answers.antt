@@ -2,7 +2,7 @@ use Rattle.std.proofs.Common.{◌≡◌, ℕ, List, sym, subst, ◌∙◌}
 use Rattle.mg_journal.specs.declared.durability.Durability.TheVariants.{Synced}
 use Rattle.mg_journal.specs.Journal.{Appends}
 use Rattle.mg_journal.specs.Text.{EndsInLineFeed}
-use Rattle.mg_arguments.specs.Title.{title_line}
+use Rattle.mg_service.specs.Title.{title_line}
 use Rattle.mg_start.specs.aids.Starting.{Logs}
 use Rattle.mg_start.proofs.JournalLemmas.{title_feed}
 use Rattle.mg_start.proofs.found_journal.append_title.Goals as goal

@@ -1,7 +1,7 @@
 use Rattle.std.proofs.Common.{◌≡◌, drop, map}
-use Rattle.mg_arguments.specs.FilePath.{file_path}
-use Rattle.mg_arguments.specs.Read.{all_read}
-use Rattle.mg_arguments.proofs.ReadLemmas.{then_read}
+use Rattle.mg_service.specs.FilePath.{file_path}
+use Rattle.mg_service.specs.Read.{all_read}
+use Rattle.mg_service.proofs.ReadLemmas.{then_read}
 use Rattle.mg_arguments.proofs.file_paths.FilePaths.after_first.Given as goal
 
 abbrev pub invariant-loop-place : goal.invariant-loop-place

@@ -3,8 +3,8 @@ use Rattle.std.specs.Prelude.{ok_or}
 use Rattle.mg_heard.specs.Asked.{rule_by}
 use Rattle.mg_heard.specs.declared.asked_rule.AskedRule.{AskedRule}
 use Rattle.mg_arguments.specs.declared.rule_fault.RuleFault.TheVariants.{Unreadable}
-use Rattle.mg_arguments.specs.Read.{all_read}
-use Rattle.mg_arguments.proofs.ReadLemmas.{next_read, none_read, then_read}
+use Rattle.mg_service.specs.Read.{all_read}
+use Rattle.mg_service.proofs.ReadLemmas.{next_read, none_read, then_read}
 use Rattle.mg_arguments.proofs.rules.Rules.of.Goals as goal
 
 pub loop-text-init : goal.loop-text-init

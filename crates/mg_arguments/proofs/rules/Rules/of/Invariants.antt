@@ -2,8 +2,8 @@ use Rattle.std.proofs.Common.{◌≡◌, drop, length, map}
 use Rattle.std.specs.Prelude.{ok_or}
 use Rattle.mg_heard.specs.Asked.{rule_by}
 use Rattle.mg_arguments.specs.declared.rule_fault.RuleFault.TheVariants.{Unreadable}
-use Rattle.mg_arguments.specs.Read.{all_read}
-use Rattle.mg_arguments.proofs.ReadLemmas.{then_read}
+use Rattle.mg_service.specs.Read.{all_read}
+use Rattle.mg_service.proofs.ReadLemmas.{then_read}
 use Rattle.mg_arguments.proofs.rules.Rules.of.Given as goal
 
 abbrev pub invariant-loop-text : goal.invariant-loop-text

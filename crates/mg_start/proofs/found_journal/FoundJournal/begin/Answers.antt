@@ -2,7 +2,7 @@ use Rattle.std.proofs.Common.{◌≡◌, false, is_err, sym, ◌∙◌}
 use Rattle.mg_journal.specs.declared.durability.Durability.TheVariants.{Written, Synced}
 use Rattle.mg_journal.specs.Journal.{appended}
 use Rattle.mg_journal.specs.aids.Opened.{text_in}
-use Rattle.mg_arguments.specs.Title.{title_line}
+use Rattle.mg_service.specs.Title.{title_line}
 use Rattle.mg_start.specs.Journal.{start_lines}
 use Rattle.mg_start.proofs.BeginLemmas.{has_begun, was_done}
 use Rattle.mg_start.proofs.LogLemmas.{first_quiet, logs_done}

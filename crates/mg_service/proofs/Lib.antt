@@ -1,0 +1,3 @@
+pub mod TitleLemmas
+pub mod ConfigOptionLemmas
+pub mod ReadLemmas

@@ -1,0 +1,27 @@
+use Rattle.std.proofs.Common.{◌∙◌, ℕ, List, Option, [], ◌∷◌, ap, arith, length, length-append, map, drop, refl, sym, ◌+◌}
+use Rattle.std.specs.Prelude.{ok_or}
+use Rattle.mg_words.specs.Address.{address_of}
+use Rattle.mg_service.specs.declared.controller_fault.ControllerFault.TheVariants.{Unreadable}
+use Rattle.mg_service.specs.Read.{all_read}
+use Rattle.mg_service.proofs.ReadLemmas.{next_read, none_read, then_read}
+use Rattle.mg_service.proofs.controllers.Controllers.of.Goals as goal
+
+pub loop-text-init : goal.loop-text-init
+loop-text-init c = rw c.new-addresses.ensures (none_read _, refl)
+
+pub loop-text-preserved : goal.loop-text-preserved
+loop-text-preserved c =
+    let rest = all_read (λ text. ok_or (address_of text) Unreadable)
+    (map (λ t. t.now) (drop (c.loop-text.text-index + 1) c.args.texts.now)) in
+    let is = sym (ap address_of c.as_bytes.ensures.value) ∙ (sym c.address_of.ensures.value ∙ c.in-Some.is) in
+    let next = next_read (λ text. ok_or (address_of text) Unreadable) (λ t. t.now) c.args.texts.now
+    c.loop-text.text-index _ c.in-Some.address c.loop-text.addresses.items c.loop-text-test.true
+    (ap (λ (o : Option (List ℕ)). ok_or o Unreadable) is) in (
+      ap (λ items. then_read items rest) c.push.ensures.items ∙ (sym next ∙ c.loop-text.invariant.0),
+      omega (
+        arith,
+        ap length c.push.ensures.items,
+        length-append c.loop-text.addresses.items (c.in-Some.address ∷ []),
+        c.loop-text.invariant.1,
+      ),
+    )

@@ -12,13 +12,13 @@ ghost use Rattle.mg_service.specs.Title.{title_line};
 use crate::gateway::Gateway;
 use crate::journal_fault::JournalFault;
 use crate::start::Start;
-use crate::title::title_line;
 use arrayvec::ArrayVec;
 use itoa::Buffer;
 use mg_core::{Config, ticks_line};
 use mg_dates::{Date, DatedJournal, Timeline};
 use mg_host::{Dates, Environment, System, Tells};
 use mg_journal::{AppendFault, Durability, FileJournal, Journal, JournalFile, Opening};
+use mg_service::title_line_of;
 use std::alloc::AllocError;
 use std::io::{self, ErrorKind};
 
@@ -59,7 +59,7 @@ fn append_title<T: Tells, J: Journal>(
     append(
         host,
         journal,
-        title_line(config).as_slice(),
+        title_line_of(config).as_slice(),
         Durability::Synced,
     )
 }

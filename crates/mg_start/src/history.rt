@@ -9,12 +9,12 @@ ghost use Rattle.mg_service.specs.Title.{title_line};
 ghost use Rattle.mg_start.specs.aids.Starting.{CanResume, may_be_title};
 
 use crate::faults::{read_fault, run_fault};
+use crate::front::FRONT;
 use crate::journal_fault::JournalFault;
 use crate::journal_reader::JournalReader;
 use crate::reading::{FileKey, Reading};
 use crate::renewed::{is_renewed, run_renewed};
 use crate::resumed::Resumed;
-use crate::title::FRONT;
 use memchr::memchr;
 use mg_chain::read_seals;
 use mg_core::{Config, Core, resume};

@@ -21,6 +21,7 @@
 mod beginning;
 mod faults;
 mod found_journal;
+mod front;
 mod gateway;
 mod history;
 mod journal_fault;
@@ -34,7 +35,6 @@ mod restored;
 mod resumed;
 mod start;
 pub mod theorems;
-mod title;
 
 pub use crate::beginning::begin_journal;
 pub use crate::found_journal::FoundJournal;

@@ -7,15 +7,16 @@ ghost use Rattle.mg_service.specs.Title.{title_line};
 ghost use Rattle.mg_start.specs.aids.Starting.{CanResume, IsRestored};
 
 use crate::faults::{read_fault, restore_fault, run_fault};
+use crate::front::FRONT;
 use crate::journal_fault::JournalFault;
 use crate::journal_reader::JournalReader;
 use crate::reading::{FileKey, Reading};
 use crate::restored::Restored;
 use crate::resumed::Resumed;
-use crate::title::{FRONT, title_line};
 use mg_checkpoint::{begins_checkpoint, ends_checkpoint, restore};
 use mg_core::{Config, Core, resume_from};
 use mg_journal::{JournalFile, Opening};
+use mg_service::title_line_of;
 use std::alloc::Global;
 use std::io::{BufRead, BufReader, Read};
 
@@ -36,7 +37,7 @@ pub(crate) fn is_renewed<F: JournalFile>(
         Ok(n) => n,
         Err(error) => return Err(JournalFault::Read(error)),
     };
-    let title = title_line(config);
+    let title = title_line_of(config);
     match buffer[..n].strip_prefix(title.as_slice()) {
         Some(behind) => Ok(begins_checkpoint(behind)),
         None => Ok(false),
@@ -98,7 +99,7 @@ fn restore_front<R: BufRead>(
     ensures restored { IfOk result (λ r.
         IsRestored config (R.remaining reader.old) (R.remaining reader.new) r.core.state) }
 {
-    read_title(alloc, title_line(&config).as_slice(), reader)?;
+    read_title(alloc, title_line_of(&config).as_slice(), reader)?;
     let text = read_checkpoint(alloc, reader)?;
     match restore(alloc, config, text.as_slice()) {
         Ok(core) => Ok(Restored {

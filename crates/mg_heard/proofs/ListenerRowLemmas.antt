@@ -25,7 +25,7 @@ use Rattle.mg_heard.proofs.AdvanceLemmas.{new_flows}
 use Rattle.mg_heard.proofs.FillLemmas.{nobody, seats_more}
 use Rattle.mg_heard.proofs.Members.{In, Pairs, all_from_pairs, at_from_in, in_at, in_map, in_right, pairs_from_all}
 use Rattle.mg_heard.proofs.SameLemmas.{same}
-use Rattle.mg_heard.proofs.RowLemmas.{any_found, began_in_none, began_in_row, by_number, found_nowhere, heard_listener, in_all, open_to, open_to_none, row_rising, rows_pairs}
+use Rattle.mg_heard.proofs.RowLemmas.{any_found, began_in_none, began_in_row, by_number, found_nowhere, heard_listener, in_all, none_ended, open_to, open_to_none, row_rising, row_stays, rows_pairs}
 
 -- ## One listener after another
 
@@ -167,13 +167,13 @@ apart_at rows k m d h below within apart e =
           absurd (omega (arith, step, e))
     ]
 
-made_more : (first rows : List ListenerRow) (hs : List Hearer) (now : Moment) (j : ℕ) (h : Hearer) (y : ListenerRow) →
-    j < length hs → j < length rows → get_or hs j h ≡ h → y ≡ made (intervals_of first) hs now h →
-    take j rows ≡ map (made (intervals_of first) hs now) (take j hs) →
-    take (j + 1) (set rows j y) ≡ map (made (intervals_of first) hs now) (take (j + 1) hs)
-made_more first rows hs now j h y there within is e so_far =
+made_more : (first rows new : List ListenerRow) (hs : List Hearer) (now : Moment) (j : ℕ) (h : Hearer)
+    (y : ListenerRow) → j < length hs → take (j + 1) new ≡ take j rows ++ y ∷ [] → get_or hs j h ≡ h →
+    y ≡ made (intervals_of first) hs now h → take j rows ≡ map (made (intervals_of first) hs now) (take j hs) →
+    take (j + 1) new ≡ map (made (intervals_of first) hs now) (take (j + 1) hs)
+made_more first rows new hs now j h y there put is e so_far =
     let f = made (intervals_of first) hs now in
-    take_more_set rows j y within
+    put
     ∙ ap (λ (l : List ListenerRow). l ++ y ∷ []) so_far
     ∙ ap (λ (r : ListenerRow). map f (take j hs) ++ r ∷ []) e
     ∙ sym (map_push f (take j hs) h)
@@ -193,6 +193,21 @@ is_rest flows r z listens row = λ i. record { listener = listens i; row = row i
 abbrev pub no_row : ListenerRow
 no_row = record { listener = nobody; row = [] }
 
+-- The intervals to a listener can only continue intervals of the listener's earlier row.
+row_alike : (first : List ListenerRow) (r : ListenerRow) (hs : List Hearer) (h : Hearer) (now : Moment) → AreRows first →
+    In r first → number_of r.listener ≡ number_of h →
+    map (continued r.row) (map (beginning_at now) (flows_heard (seats_of hs) h)) ≡
+    map (continued (intervals_of first)) (map (beginning_at now) (flows_heard (seats_of hs) h))
+row_alike first r hs h now own i named = continued_alike r.row (intervals_of first) now (flows_heard (seats_of hs) h)
+    (λ x j. sym (began_in_row first r x own i (named ∙ sym (heard_listener (seats_of hs) h x j))))
+
+-- Of the intervals of an earlier row, those end whose flows are not among the flows to its listener.
+ends_alike : (first : List ListenerRow) (r : ListenerRow) (hs : List Hearer) (h : Hearer) → AreRows first →
+    AreRising hs → In r first → In h hs → number_of r.listener ≡ number_of h →
+    without_flows (flows_heard (seats_of hs) h) r.row ≡ without_flows (flows_among hs) r.row
+ends_alike first r hs h own up i there named = left_alike (flows_heard (seats_of hs) h) (flows_among hs) r.row
+    (λ x j. sym (open_to hs h x.flow up there (sym named ∙ sym (row_listener first r x own i j))))
+
 -- If the next listener has an earlier row, its new row continues that one.
 pub advances_found : (first old rows : List ListenerRow) (hs : List Hearer) (now : Moment) (j k : ℕ) (h : Hearer)
     (d y z : ListenerRow) → AreRows first → AreRising hs → j < length hs → j < length rows → get_or hs j h ≡ h →
@@ -207,13 +222,11 @@ advances_found first old rows hs now j k h d y z own up there within is a below 
     let same = at_first first old rows hs now j k h d up there is a below number in
     let named : number_of r.listener ≡ number_of h = sym (ap (λ (r : ListenerRow). number_of r.listener) same) ∙ number in
     let whole = row ∙ ap (λ (r : ListenerRow). map (continued r.row) (map (beginning_at now) fs)) same
-    ∙ continued_alike r.row (intervals_of first) now fs (λ x i. sym (began_in_row first r x own (in_at first k d below)
-    (named ∙ sym (heard_listener (seats_of hs) h x i)))) in
+    ∙ row_alike first r hs h now own (in_at first k d below) named in
     let keeps_it = keeps ∙ ap (λ (r : ListenerRow). r.listener) same in
     let in_hs : In h hs = subst (λ (x : Hearer). In x hs) is (in_at hs j h there) in
     let ends = ended ∙ ap (λ (r : ListenerRow). without_flows fs r.row) same
-    ∙ left_alike fs (flows_among hs) r.row (λ x i. sym (open_to hs h x.flow up in_hs
-    (sym named ∙ sym (row_listener first r x own (in_at first k d below) i)))) in
+    ∙ ends_alike first r hs h own up (in_at first k d below) in_hs named in
     let F = flows_among hs in
     let now_at = λ (m : ℕ) (e x : ListenerRow). get_or (set old k z) m e ≡
     left F (among (take (j + 1) hs) (number_of x.listener)) x in
@@ -222,7 +235,7 @@ advances_found first old rows hs now j k h d y z own up there within is a below 
     ∙ ap (λ (b : Bool). left F b r) (sym (among_this hs j (number_of r.listener) h there is (sym named)))) in
     record {
       within = omega arith;
-      has_made = made_more first rows hs now j h y there within is
+      has_made = made_more first rows (set rows j y) hs now j h y there (take_more_set rows j y within) is
           (is_made (intervals_of first) hs now h y listens whole) a.has_made;
       long = length-set old k z ∙ a.long;
       has_left = λ m e inside. by_number m k (now_at m e (get_or first m e))
@@ -251,7 +264,7 @@ advances_new first old rows hs now j h y own there within is a none listens row 
     apart k r below (ap (λ (r : ListenerRow). number_of r.listener) at ∙ e ∙ heard_listener (seats_of hs) h x i))) in
     record {
       within = omega arith;
-      has_made = made_more first rows hs now j h y there within is
+      has_made = made_more first rows (set rows j y) hs now j h y there (take_more_set rows j y within) is
           (is_made (intervals_of first) hs now h y listens whole) a.has_made;
       long = a.long;
       has_left = λ m e inside. a.has_left m e inside ∙ ap (λ (b : Bool). left F b (get_or first m e))
@@ -384,6 +397,121 @@ same_more rows hs i r h below within at is same so_far =
     ∙ ap (λ (t : Seated). seats_of (take i hs) ++ t ∷ []) same
     ∙ sym (seats_more hs i h within is)
 
+pub same_length : (rows : List ListenerRow) (hs : List Hearer) → seats_of (listeners_of rows) ≡ seats_of hs →
+    length rows ≡ length hs
+same_length rows hs same = sym (length-map rows (λ r. r.listener)) ∙ sym (length-map (listeners_of rows) (λ h. h.seated))
+    ∙ ap length same ∙ length-map hs (λ h. h.seated)
+
+same_seat : (rows : List ListenerRow) (hs : List Hearer) (j : ℕ) (h : Hearer) (d : ListenerRow) →
+    seats_of (listeners_of rows) ≡ seats_of hs → j < length hs → get_or hs j h ≡ h →
+    (get_or rows j d).listener.seated ≡ h.seated
+same_seat rows hs j h d same there is =
+    let below : j < length rows = omega (arith, there, same_length rows hs same) in
+    let within : j < length (listeners_of rows) = omega (arith, below, length-map rows (λ r. r.listener)) in
+    ap (λ (x : Hearer). x.seated) (sym (get_or-map (λ r. r.listener) rows j d d.listener below))
+    ∙ sym (get_or-map (λ h. h.seated) (listeners_of rows) j d.listener h.seated within)
+    ∙ ap (λ (l : List Seated). get_or l j h.seated) same
+    ∙ get_or-map (λ h. h.seated) hs j h h.seated there ∙ ap (λ (x : Hearer). x.seated) is
+
+intervals_push : (rows : List ListenerRow) (r : ListenerRow) → intervals_of (rows ++ r ∷ []) ≡ intervals_of rows ++ r.row
+intervals_push rows r = flat_map-append (λ r. r.row) rows (r ∷ [])
+    ∙ ap (λ (l : List OpenInterval). intervals_of rows ++ l) (append-nil r.row)
+
+-- Of the rows `first`, those of the first `j` listeners were renewed. The first `n` rows of `ended` have the intervals
+-- that ended.
+pub record Renews (first rows ended : List ListenerRow) (hs : List Hearer) (now : Moment) (j n : ℕ) : Type 0 where
+  pub within : j ≤ length hs
+  pub few : n ≤ j
+  pub has_made : take j rows ≡ map (made (intervals_of first) hs now) (take j hs)
+  pub has_kept : (k : ℕ) (d : ListenerRow) → j ≤ k → get_or rows k d ≡ get_or first k d
+  pub has_ended : intervals_of (take n ended) ≡ without_flows (flows_among hs) (intervals_of (take j first))
+
+pub renews_start : (first ended : List ListenerRow) (hs : List Hearer) (now : Moment) → Renews first first ended hs now 0 0
+renews_start first ended hs now =
+    record { within = omega arith; few = omega arith; has_made = refl; has_kept = λ k d past. refl; has_ended = refl }
+
+ended_more : (F : List OpenFlow) (first : List ListenerRow) (j : ℕ) (d : ListenerRow) → j < length first →
+    without_flows F (intervals_of (take (j + 1) first)) ≡
+    without_flows F (intervals_of (take j first)) ++ without_flows F (get_or first j d).row
+ended_more F first j d below = ap (λ (l : List ListenerRow). without_flows F (intervals_of l)) (take_more first j d below)
+    ∙ ap (without_flows F) (intervals_push (take j first) (get_or first j d))
+    ∙ filter-append (λ x. not (has F x.flow)) (intervals_of (take j first)) (get_or first j d).row
+
+pub renews_changed : (first rows ended : List ListenerRow) (hs : List Hearer) (now : Moment) (j n : ℕ) (h : Hearer)
+    (d y z : ListenerRow) → AreRows first → AreRising hs → seats_of (listeners_of first) ≡ seats_of hs →
+    j < length hs → j < length rows → n < length ended → get_or hs j h ≡ h → Renews first rows ended hs now j n →
+    y.listener ≡ h → y.row ≡ map (continued (get_or rows j d).row) (map (beginning_at now) (flows_heard (seats_of hs) h)) →
+    z.row ≡ without_flows (flows_heard (seats_of hs) h) (get_or rows j d).row →
+    Renews first (set rows j y) (set ended n z) hs now (j + 1) (n + 1)
+renews_changed first rows ended hs now j n h d y z own up same there within room is a listens row ends =
+    let r = get_or first j d in
+    let fs = flows_heard (seats_of hs) h in
+    let F = flows_among hs in
+    let below : j < length first = omega (arith, there, same_length first hs same) in
+    let among = in_at first j d below in
+    let kept = a.has_kept j d (omega arith) in
+    let named = ap (λ (t : Seated). t.party.number) (same_seat first hs j h d same there is) in
+    let whole = row ∙ ap (λ (r : ListenerRow). map (continued r.row) (map (beginning_at now) fs)) kept
+    ∙ row_alike first r hs h now own among named in
+    let rest = ends ∙ ap (λ (r : ListenerRow). without_flows fs r.row) kept
+    ∙ ends_alike first r hs h own up among (subst (λ (x : Hearer). In x hs) is (in_at hs j h there)) named in
+    record {
+      within = omega arith;
+      few = omega (arith, a.few);
+      has_made = made_more first rows (set rows j y) hs now j h y there (take_more_set rows j y within) is
+          (is_made (intervals_of first) hs now h y listens whole) a.has_made;
+      has_kept = λ k e past. get_or-set_other rows j k y e (λ q. absurd (omega (arith, past, q)))
+          ∙ a.has_kept k e (omega (arith, past));
+      has_ended = ap intervals_of (take_more_set ended n z room) ∙ intervals_push (take n ended) z
+          ∙ (λ i. a.has_ended i ++ rest i) ∙ sym (ended_more F first j d below);
+    }
+
+pub renews_kept : (first rows ended : List ListenerRow) (hs : List Hearer) (now : Moment) (j n : ℕ) (h : Hearer)
+    (d : ListenerRow) → AreRows first → AreRising hs → seats_of (listeners_of first) ≡ seats_of hs → j < length hs →
+    j < length rows → get_or hs j h ≡ h → Renews first rows ended hs now j n →
+    (get_or rows j d).listener.talkers ≡ h.talkers → Renews first rows ended hs now (j + 1) n
+renews_kept first rows ended hs now j n h d own up same there within is a talkers =
+    let r = get_or first j d in
+    let fs = flows_heard (seats_of hs) h in
+    let F = flows_among hs in
+    let below : j < length first = omega (arith, there, same_length first hs same) in
+    let among = in_at first j d below in
+    let kept = a.has_kept j d (omega arith) in
+    let seated = same_seat first hs j h d same there is in
+    let named = ap (λ (t : Seated). t.party.number) seated in
+    let hears = sym (ap (λ (r : ListenerRow). r.listener.talkers) kept) ∙ talkers in
+    let listens : r.listener ≡ h = λ i. record { seated = seated i; talkers = hears i } in
+    let flows = earlier_flows first r j d (seats_of hs) h own below refl same listens in
+    let whole = sym (row_stays now r.row fs (earlier_rising first r j d own below refl) flows)
+    ∙ row_alike first r hs h now own among named in
+    let rest = none_ended r.row fs flows
+    ∙ ends_alike first r hs h own up among (subst (λ (x : Hearer). In x hs) is (in_at hs j h there)) named in
+    record {
+      within = omega arith;
+      few = omega (arith, a.few);
+      has_made = made_more first rows rows hs now j h r there
+          (take_more rows j d within ∙ ap (λ (x : ListenerRow). take j rows ++ x ∷ []) kept) is
+          (is_made (intervals_of first) hs now h r listens whole) a.has_made;
+      has_kept = λ k e past. a.has_kept k e (omega (arith, past));
+      has_ended = a.has_ended ∙ sym (append-nil (without_flows F (intervals_of (take j first))))
+          ∙ ap (λ (l : List OpenInterval). without_flows F (intervals_of (take j first)) ++ l) rest
+          ∙ sym (ended_more F first j d below);
+    }
+
+pub all_renewed : (first rows ended : List ListenerRow) (hs : List Hearer) (now : Moment) (j n : ℕ) →
+    seats_of (listeners_of first) ≡ seats_of hs → length rows ≡ length first → length hs ≤ j →
+    Renews first rows ended hs now j n → rows ≡ map (made (intervals_of first) hs now) hs
+all_renewed first rows ended hs now j n same long past a =
+    sym (take_all j rows (omega (arith, past, long, same_length first hs same))) ∙ a.has_made
+    ∙ ap (map (made (intervals_of first) hs now)) (take_all j hs past)
+
+pub renewed_ended : (first rows ended : List ListenerRow) (hs : List Hearer) (now : Moment) (j n : ℕ) →
+    seats_of (listeners_of first) ≡ seats_of hs → length hs ≤ j → Renews first rows ended hs now j n →
+    intervals_of (take n ended) ≡ without_flows (flows_among hs) (intervals_of first)
+renewed_ended first rows ended hs now j n same past a = a.has_ended
+    ∙ ap (λ (l : List ListenerRow). without_flows (flows_among hs) (intervals_of l))
+    (take_all j first (omega (arith, past, same_length first hs same)))
+
 -- ## Reported rows
 
 pub told_row : (end : Option Moment) (before : List Entry) (rows : List ListenerRow) (i : ℕ) (r : ListenerRow) →
@@ -394,6 +522,5 @@ told_row end before rows i r within is =
     let front = take i rows in
     append_assoc before (map (entry_until end) (intervals_of front)) (map (entry_until end) r.row)
     ∙ ap (λ (l : List Entry). before ++ l) (sym (map-append (entry_until end) (intervals_of front) r.row)
-    ∙ ap (map (entry_until end)) (ap (λ (l : List OpenInterval). intervals_of front ++ l) (sym (append-nil r.row))
-    ∙ sym (flat_map-append (λ r. r.row) front (r ∷ []))
+    ∙ ap (map (entry_until end)) (sym (intervals_push front r)
     ∙ ap intervals_of (sym (take_more rows i r within ∙ ap (λ (x : ListenerRow). front ++ x ∷ []) is))))

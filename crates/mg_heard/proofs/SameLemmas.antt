@@ -8,8 +8,7 @@ use Rattle.std.proofs.lemmas.Bool.Decides.{Decides-eqb, Decides-and, Decides-lik
 use Rattle.std.proofs.lemmas.Slice.Eq.{bytes_eq-Decides}
 use Rattle.mg_words.specs.declared.peer.Peer.{Peer}
 use Rattle.mg_heard.specs.declared.open_flow.OpenFlow.{OpenFlow}
-use Rattle.mg_heard.specs.aids.Hearers.{is_same_hearer, is_same_seated}
-use Rattle.mg_heard.specs.declared.hearer.Hearer.{Hearer}
+use Rattle.mg_heard.specs.aids.Hearers.{is_same_seated}
 use Rattle.mg_heard.specs.declared.seated.Seated.{Seated}
 use Rattle.mg_heard.specs.OpenFlow.{has, is_same, is_same_peer}
 use Rattle.mg_heard.proofs.Members.{In}
@@ -75,10 +74,3 @@ same_seated a b h =
     let r = (same_remote a.party.at b.party.at).0 at in
     let s = eqb-true a.seat b.seat seat in
     λ i. record { party = record { number = n i; context = c i; at = r i }; seat = s i }
-
-pub same_hearer : (a b : Hearer) → is_same_hearer a b ≡ true → a ≡ b
-same_hearer a b h =
-    let (talkers, seated) = and_parts (eqb a.talkers b.talkers) (is_same_seated a.seated b.seated) h in
-    let t = eqb-true a.talkers b.talkers talkers in
-    let s = same_seated a.seated b.seated seated in
-    λ i. record { seated = s i; talkers = t i }

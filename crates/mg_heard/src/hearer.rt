@@ -4,7 +4,7 @@ ghost use Rattle.mg_rooms.specs.Registry.{record_at};
 ghost use Rattle.mg_words.specs.Limits.{member_limit};
 ghost use Rattle.mg_core.specs.World.{World};
 ghost use Rattle.mg_core.specs.aids.Stands.{StandsFor};
-ghost use Rattle.mg_heard.specs.aids.Hearers.{flows_heard, is_heard, is_same_hearer, seated_of, seats_of, AreHearers, AreRising, HearsTalkers};
+ghost use Rattle.mg_heard.specs.aids.Hearers.{flows_heard, is_heard, seated_of, seats_of, AreHearers, AreRising, HearsTalkers};
 
 use crate::seated::Seated;
 use arrayvec::ArrayVec;
@@ -39,12 +39,6 @@ impl Hearer {
         talker.party.context == self.seated.party.context
             && seat < SEATS
             && mask::has_seat(self.talkers, seat)
-    }
-
-    pub(crate) fn is_same(&self, other: &Hearer) -> bool
-        ensures value { result ≡ is_same_hearer self.now other.now }
-    {
-        self.talkers == other.talkers && self.seated.is_same(&other.seated)
     }
 }
 

@@ -1,9 +1,9 @@
 //! The intervals of a listener, before and after a moment.
 
-ghost use Rattle.std.specs.Prelude.{◌≡◌, ◌≤◌, true, length, map};
+ghost use Rattle.std.specs.Prelude.{◌≡◌, ◌≤◌, length, map};
 ghost use Rattle.mg_words.specs.Limits.{member_limit};
 ghost use Rattle.mg_heard.specs.aids.Hearers.{flows_heard, seats_of};
-ghost use Rattle.mg_heard.specs.aids.Opening.{beginning_at, continued, flows_of, without_flows, IsRising};
+ghost use Rattle.mg_heard.specs.aids.Opening.{beginning_at, continued, without_flows, IsRising};
 
 use crate::hearer::Hearer;
 use crate::moment::Moment;
@@ -39,21 +39,16 @@ impl ListenerRow {
 
     /// Replaces the listener and its intervals. An interval continues the earlier interval of the same flow, if the
     /// flow has one. Afterwards, `earlier` has only the intervals that are not continued.
-    ///
-    /// If `is_same` is set, the terminations are unchanged; only who hears whom may differ.
     pub(crate) fn advance(
         &mut self,
         earlier: &mut ListenerRow,
         hearers: &[Hearer],
         listener: &Hearer,
-        is_same: bool,
         now: Moment,
     )
         requires few { length (flows_heard (seats_of hearers.now) listener.now) ≤ member_limit }
         requires old { IsRising earlier.old.row }
         requires new { IsRising (map (beginning_at now) (flows_heard (seats_of hearers.now) listener.now)) }
-        requires same { is_same ≡ true → earlier.old.listener ≡ listener.now →
-            flows_of earlier.old.row ≡ flows_heard (seats_of hearers.now) listener.now }
         ensures listener { self.new.listener ≡ listener.now }
         ensures row { self.new.row ≡ map (continued earlier.old.row)
             (map (beginning_at now) (flows_heard (seats_of hearers.now) listener.now)) }
@@ -61,14 +56,30 @@ impl ListenerRow {
         ensures ended { earlier.new.row ≡
             without_flows (flows_heard (seats_of hearers.now) listener.now) earlier.old.row }
     {
-        if is_same && earlier.listener.is_same(listener) {
-            self.listener = *listener;
-            mem::swap(&mut self.row, &mut earlier.row);
-            earlier.row.clear();
-            return;
-        }
         self.start(hearers, listener, now);
         self.row.continue_from(&earlier.row);
         earlier.row.remove_continued(&self.row);
+    }
+
+    /// Replaces the talkers of the listener and its intervals. An interval continues the earlier interval of the same
+    /// flow, if the flow has one. Afterwards, `ended` has the earlier intervals that are not continued, and no others.
+    pub(crate) fn renew(
+        &mut self,
+        ended: &mut ListenerRow,
+        hearers: &[Hearer],
+        listener: &Hearer,
+        now: Moment,
+    )
+        requires few { length (flows_heard (seats_of hearers.now) listener.now) ≤ member_limit }
+        requires old { IsRising self.old.row }
+        requires new { IsRising (map (beginning_at now) (flows_heard (seats_of hearers.now) listener.now)) }
+        ensures listener { self.new.listener ≡ listener.now }
+        ensures row { self.new.row ≡ map (continued self.old.row)
+            (map (beginning_at now) (flows_heard (seats_of hearers.now) listener.now)) }
+        ensures ended { ended.new.row ≡
+            without_flows (flows_heard (seats_of hearers.now) listener.now) self.old.row }
+    {
+        mem::swap(self, ended);
+        self.advance(ended, hearers, listener, now);
     }
 }

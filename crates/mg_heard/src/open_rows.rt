@@ -17,7 +17,6 @@ use crate::rows::Rows;
 use mg_core::Core;
 use std::alloc::{AllocError, Global};
 use std::marker::Model;
-use std::mem;
 
 /// Intervals that have not ended, ordered by listener, then by talker.
 #[derive(Drop)]
@@ -64,7 +63,6 @@ impl OpenRows {
             AreBegun older (tick_count older + 1) self.new × AreBegun older (tick_count older) (intervals_of ended.new) }
     {
         let hearers = hearers_of(core);
-        mem::swap(&mut self.rows, ended);
         self.rows.advance(ended, hearers.as_slice(), now);
     }
 }

@@ -11,6 +11,7 @@ use crate::moment::Moment;
 use mg_core::TERMINATION_LIMIT;
 use std::alloc::{AllocError, Global};
 use std::marker::Model;
+use std::mem;
 
 /// Listeners with their intervals, in order of the listeners' numbers.
 #[derive(Drop)]
@@ -50,9 +51,33 @@ impl Rows {
         &self.places[..self.len]
     }
 
+    /// Advances to a moment. Afterwards, there is one row per listener, a flow that is still open keeps its beginning,
+    /// and `ended` holds only the intervals that have ended.
+    ///
+    /// If the terminations are unchanged, only rows of listeners whose talkers changed are touched, and `ended` has a row
+    /// for each of these listeners.
+    pub(crate) fn advance(&mut self, ended: &mut Rows, hearers: &[Hearer], now: Moment)
+        requires many { length hearers.now ≤ termination_limit }
+        requires few { All (λ h. length (flows_heard (seats_of hearers.now) h) ≤ member_limit) hearers.now }
+        requires rising { AreRising hearers.now }
+        requires rows { AreRows self.old }
+        ensures rows { AreRows self.new }
+        ensures value { intervals_of self.new ≡ map (continued (intervals_of self.old))
+            (map (beginning_at now) (flows_among hearers.now)) }
+        ensures ended { intervals_of ended.new ≡ without_flows (flows_among hearers.now) (intervals_of self.old) }
+    {
+        if are_same(self.as_slice(), hearers) {
+            let len = self.len;
+            ended.len = renew_front(&mut self.places, len, &mut ended.places, hearers, now);
+            return;
+        }
+        mem::swap(self, ended);
+        self.replace(ended, hearers, now);
+    }
+
     /// Replaces all rows with one row per listener. A flow that is still open keeps its beginning from `old`; only the
     /// intervals that have ended remain in `old`.
-    pub(crate) fn advance(&mut self, old: &mut Rows, hearers: &[Hearer], now: Moment)
+    fn replace(&mut self, old: &mut Rows, hearers: &[Hearer], now: Moment)
         requires many { length hearers.now ≤ termination_limit }
         requires few { All (λ h. length (flows_heard (seats_of hearers.now) h) ≤ member_limit) hearers.now }
         requires rising { AreRising hearers.now }
@@ -121,24 +146,16 @@ fn advance_front(
     ensures ended { intervals_of (take len old.new) ≡
         without_flows (flows_among hearers.now) (intervals_of (take len old.old)) }
 {
-    let is_same = are_same(&old[..len], hearers);
-    advance_rows(rows, &mut old[..len], hearers, is_same, now);
+    advance_rows(rows, &mut old[..len], hearers, now);
 }
 
 /// Fills the first places with one row per listener. A flow that is still open keeps its beginning from `old`; only the
 /// intervals that have ended remain there.
-fn advance_rows(
-    rows: &mut [ListenerRow],
-    old: &mut [ListenerRow],
-    hearers: &[Hearer],
-    is_same: bool,
-    now: Moment,
-)
+fn advance_rows(rows: &mut [ListenerRow], old: &mut [ListenerRow], hearers: &[Hearer], now: Moment)
     requires room { length hearers.now ≤ length rows.old }
     requires few { All (λ h. length (flows_heard (seats_of hearers.now) h) ≤ member_limit) hearers.now }
     requires rising { AreRising hearers.now }
     requires rows { AreRows old.old }
-    requires same { is_same ≡ true → seats_of (listeners_of old.old) ≡ seats_of hearers.now }
     ensures rows { AreRows (take (length hearers.now) rows.new) }
     ensures value { intervals_of (take (length hearers.now) rows.new) ≡ map (continued (intervals_of old.old))
         (map (beginning_at now) (flows_among hearers.now)) }
@@ -146,10 +163,63 @@ fn advance_rows(
 {
     for (place, hearer) in hearers.iter().enumerate() {
         match place_of(old, hearer.seated.party.number, place) {
-            Some(earlier) => {
-                rows[place].advance(&mut old[earlier], hearers, hearer, is_same, now)
-            }
+            Some(earlier) => rows[place].advance(&mut old[earlier], hearers, hearer, now),
             None => rows[place].start(hearers, hearer, now),
         }
     }
+}
+
+/// Replaces, among the first `len` rows, those of listeners whose talkers changed. Puts the intervals that have ended
+/// into the first rows of `ended`, and returns the number of these rows.
+fn renew_front(
+    rows: &mut [ListenerRow],
+    len: usize,
+    ended: &mut [ListenerRow],
+    hearers: &[Hearer],
+    now: Moment,
+) -> usize
+    requires within { len ≤ length rows.old }
+    requires room { length hearers.now ≤ length ended.old }
+    requires few { All (λ h. length (flows_heard (seats_of hearers.now) h) ≤ member_limit) hearers.now }
+    requires rising { AreRising hearers.now }
+    requires rows { AreRows (take len rows.old) }
+    requires same { seats_of (listeners_of (take len rows.old)) ≡ seats_of hearers.now }
+    ensures within { result ≤ length hearers.now }
+    ensures rows { AreRows (take len rows.new) }
+    ensures value { intervals_of (take len rows.new) ≡ map (continued (intervals_of (take len rows.old)))
+        (map (beginning_at now) (flows_among hearers.now)) }
+    ensures ended { intervals_of (take result ended.new) ≡
+        without_flows (flows_among hearers.now) (intervals_of (take len rows.old)) }
+{
+    renew_rows(&mut rows[..len], ended, hearers, now)
+}
+
+/// Replaces the rows of listeners whose talkers changed. Puts the intervals that have ended into the first rows of
+/// `ended`, and returns the number of these rows.
+fn renew_rows(
+    rows: &mut [ListenerRow],
+    ended: &mut [ListenerRow],
+    hearers: &[Hearer],
+    now: Moment,
+) -> usize
+    requires room { length hearers.now ≤ length ended.old }
+    requires few { All (λ h. length (flows_heard (seats_of hearers.now) h) ≤ member_limit) hearers.now }
+    requires rising { AreRising hearers.now }
+    requires rows { AreRows rows.old }
+    requires same { seats_of (listeners_of rows.old) ≡ seats_of hearers.now }
+    ensures within { result ≤ length hearers.now }
+    ensures rows { AreRows rows.new }
+    ensures value { intervals_of rows.new ≡ map (continued (intervals_of rows.old))
+        (map (beginning_at now) (flows_among hearers.now)) }
+    ensures ended { intervals_of (take result ended.new) ≡
+        without_flows (flows_among hearers.now) (intervals_of rows.old) }
+{
+    let mut changed = 0;
+    for (place, hearer) in hearers.iter().enumerate() {
+        if rows[place].listener.talkers != hearer.talkers {
+            rows[place].renew(&mut ended[changed], hearers, hearer, now);
+            changed += 1;
+        }
+    }
+    changed
 }

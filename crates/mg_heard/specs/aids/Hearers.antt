@@ -30,9 +30,6 @@ is_same_seated a b =
     ((a.party.number == b.party.number) && ((a.party.context == b.party.context)
     && option_eq is_same_peer a.party.at b.party.at)) && (a.seat == b.seat)
 
-abbrev pub is_same_hearer : Hearer → Hearer → Bool
-is_same_hearer a b = (a.talkers == b.talkers) && is_same_seated a.seated b.seated
-
 -- Whether a talker's speech flows to a listener.
 abbrev pub is_heard : Hearer → Seated → Bool
 is_heard h t =

@@ -1,11 +1,10 @@
-use Rattle.std.proofs.Common.{◌≡◌, ◌+◌, ◌<◌, List, get_or, length, set, sym, subst, ◌∙◌, arith}
+use Rattle.std.proofs.Common.{◌+◌, ◌<◌, List, get_or, length, set, sym, subst, arith}
 use Rattle.std.proofs.lemmas.List.{get_or_default}
-use Rattle.mg_heard.specs.aids.Hearers.{seats_of}
 use Rattle.mg_heard.specs.aids.Rows.{intervals_of}
 use Rattle.mg_heard.specs.declared.listener_row.ListenerRow.{ListenerRow}
 use Rattle.mg_heard.proofs.FillLemmas.{nobody}
 use Rattle.mg_heard.proofs.RowLemmas.{start_rising}
-use Rattle.mg_heard.proofs.ListenerRowLemmas.{Advances, advances_found, advances_new, advances_start, all_ended, all_rows, are_rows, at_first, earlier_flows, earlier_rising, rows_value}
+use Rattle.mg_heard.proofs.ListenerRowLemmas.{Advances, advances_found, advances_new, advances_start, all_ended, all_rows, are_rows, at_first, earlier_rising, rows_value}
 use Rattle.mg_heard.proofs.rows.advance_rows.Goals as goal
 use Rattle.mg_heard.proofs.rows.advance_rows.Goals.{in-Some, in-None}
 
@@ -29,21 +28,6 @@ advance-requires-clause-old c =
 pub advance-requires-clause-new : goal.advance-requires-clause-new
 advance-requires-clause-new c =
     start_rising c.args.hearers.now (get_or c.args.hearers.now c.loop-place.place nobody) c.args.now c.requires.rising
-
-pub advance-requires-clause-same : goal.advance-requires-clause-same
-advance-requires-clause-same c same listens =
-    let first = c.args.old.now in
-    let hs = c.args.hearers.now in
-    let j = c.loop-place.place in
-    let k = c.in-Some.earlier in
-    let d = c.index-old-earlier.result in
-    let a = c.loop-place.invariant in
-    let (inside, number) = c.in-Some.ensures.some in
-    let below : k < length first = omega (arith, inside, a.long) in
-    earlier_flows first (get_or c.loop-place.old k d) k d (seats_of hs) (get_or hs j nobody) c.requires.rows below
-    (at_first first c.loop-place.old c.loop-place.rows hs c.args.now j k (get_or hs j nobody) d c.requires.rising
-    c.loop-place-test.true (get_or_default hs j _ nobody c.loop-place-test.true) a below (number d))
-    (c.requires.same same) listens
 
 pub loop-place-preserved : goal.loop-place-preserved
 loop-place-preserved c =

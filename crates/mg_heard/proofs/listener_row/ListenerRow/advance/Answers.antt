@@ -2,23 +2,7 @@ use Rattle.std.proofs.Common.{List, map, refl, ap, sym, subst, ◌∙◌}
 use Rattle.mg_heard.specs.aids.Opening.{IsRising, continued, flows_of, without_flows}
 use Rattle.mg_heard.specs.declared.open_flow.OpenFlow.{OpenFlow}
 use Rattle.mg_heard.proofs.AdvanceLemmas.{new_flows, new_rising}
-use Rattle.mg_heard.proofs.RowLemmas.{none_ended, row_stays}
-use Rattle.mg_heard.proofs.SameLemmas.{same_hearer}
 use Rattle.mg_heard.proofs.listener_row.ListenerRow.advance.Goals as goal
-
-pub returns-then-is_same-2-clause-row : goal.returns-then-is_same-2-clause-row
-returns-then-is_same-2-clause-row c =
-    let r = c.args.earlier.now in
-    let flows = c.requires.same c.if-is_same.true
-    (same_hearer r.listener c.args.listener.now (sym c.is_same.ensures.value ∙ c.if-is_same-2.true)) in
-    c.swap.ensures.x_after ∙ sym (row_stays c.args.now r.row _ c.requires.old flows)
-
-pub returns-then-is_same-2-clause-ended : goal.returns-then-is_same-2-clause-ended
-returns-then-is_same-2-clause-ended c =
-    let r = c.args.earlier.now in
-    let flows = c.requires.same c.if-is_same.true
-    (same_hearer r.listener c.args.listener.now (sym c.is_same.ensures.value ∙ c.if-is_same-2.true)) in
-    c.clear.ensures.value ∙ none_ended r.row _ flows
 
 pub returns : goal.returns
 returns c =

@@ -6,7 +6,7 @@ use Rattle.mg_heard.specs.OpenFlows.{open_flows}
 use Rattle.mg_heard.specs.aids.Hearers.{AreHearers, AreRising, flows_among, flows_heard, seats_of}
 use Rattle.mg_heard.specs.aids.Opening.{beginning_at, continued, flows_of, without_flows}
 use Rattle.mg_heard.specs.Times.{tick_count}
-use Rattle.mg_heard.specs.aids.Rows.{AreRows, intervals_of}
+use Rattle.mg_heard.specs.aids.Rows.{intervals_of}
 use Rattle.mg_heard.specs.aids.Timing.{AreBegun}
 use Rattle.mg_heard.specs.declared.hearer.Hearer.{Hearer}
 use Rattle.mg_heard.specs.declared.open_flow.OpenFlow.{OpenFlow}
@@ -24,16 +24,13 @@ advance-requires-clause-few c = subst (λ (hs : List Hearer).
 pub advance-requires-clause-rising : goal.advance-requires-clause-rising
 advance-requires-clause-rising c = subst AreRising (sym c.as_slice.ensures.value) c.hearers_of-hearers.ensures.rising
 
-pub advance-requires-clause-rows : goal.advance-requires-clause-rows
-advance-requires-clause-rows c = subst AreRows (sym c.swap.ensures.y_after) c.self.invariant
-
 pub returns : goal.returns
 returns c =
     let hs = c.as_slice.result.now in
     let now = c.args.now in
     let old = c.args.self.now in
     let found = c.hearers_of-hearers.ensures in
-    let same : intervals_of c.swap.new.y ≡ old = ap intervals_of c.swap.ensures.y_after ∙ c.self.view_is in
+    let same : intervals_of c.self.inside.rows ≡ old = c.self.view_is in
     record {
       value = λ w past stands tick lasting.
           let consistent = subst IsConsistent (sym stands.gateway.rooms) found.consistent in
@@ -43,16 +40,16 @@ returns c =
           let filled = map (beginning_at now) next in
           let value : intervals_of c.advance.new.self ≡ map (continued old) filled =
           c.advance.ensures.value ∙ (λ i. map (continued (same i)) (map (beginning_at now) (flows i))) in
-          let ended : intervals_of c.advance.new.old ≡ without_flows (flows_of (intervals_of c.advance.new.self)) old =
+          let ended : intervals_of c.advance.new.ended ≡ without_flows (flows_of (intervals_of c.advance.new.self)) old =
           c.advance.ensures.ended ∙ (λ i. without_flows (flows i) (same i))
           ∙ ap (λ (l : List OpenFlow). without_flows l old) (sym (ap flows_of value ∙ new_flows old now next)) in
-          advanced past now next old filled (intervals_of c.advance.new.self) (intervals_of c.advance.new.old) tick lasting
+          advanced past now next old filled (intervals_of c.advance.new.self) (intervals_of c.advance.new.ended) tick lasting
           refl (filled_rising w.gateway now filled consistent refl) (λ up rising. value) (λ up rising. ended);
       begun = λ older is before.
           let begun = subst (AreBegun older (tick_count older)) (sym same) before in (
             subst (AreBegun older (tick_count older + 1)) (sym c.advance.ensures.value)
-                (begun_continued older now (intervals_of c.swap.new.y) (flows_among hs) is begun),
+                (begun_continued older now (intervals_of c.self.inside.rows) (flows_among hs) is begun),
             subst (AreBegun older (tick_count older)) (sym c.advance.ensures.ended)
-                (begun_without older (tick_count older) (flows_among hs) (intervals_of c.swap.new.y) begun),
+                (begun_without older (tick_count older) (flows_among hs) (intervals_of c.self.inside.rows) begun),
           );
     }

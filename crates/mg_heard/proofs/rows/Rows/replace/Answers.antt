@@ -4,7 +4,7 @@ use Rattle.mg_heard.specs.aids.Opening.{beginning_at, continued, without_flows}
 use Rattle.mg_heard.specs.aids.Rows.{AreRows, intervals_of}
 use Rattle.mg_heard.specs.declared.listener_row.ListenerRow.{ListenerRow}
 use Rattle.mg_heard.proofs.ContinueLemmas.{written}
-use Rattle.mg_heard.proofs.rows.Rows.advance.Goals as goal
+use Rattle.mg_heard.proofs.rows.Rows.replace.Goals as goal
 
 pub advance_front-requires-clause-rows : goal.advance_front-requires-clause-rows
 advance_front-requires-clause-rows c = subst AreRows

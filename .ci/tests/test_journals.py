@@ -92,7 +92,7 @@ class Journals(Commands):
             ("a line is missing", ticks[1], "", seals[2] - 1),
             ("a line is there twice", ticks[0], "ticks 10\nticks 10\n", seals[1] + 1),
             ("another comment", ticks[1] - 1, "# note\n", seals[2]),
-            ("a seal", seals[1], lines[seals[1] - 1].replace("0", "1"), seals[1]),
+            ("a seal", seals[1], "# sha256 " + "0" * 64 + "\n", seals[1]),
         ):
             changed = "".join([*lines[:at - 1], line, *lines[at:]])
             Path(self.path).write_text(changed)

@@ -185,6 +185,8 @@ class Renewals(Commands):
                 gateway.stats(*["tick"] * PAUSE)
                 self.assertEqual(gateway.process.stderr.readline(), UNRENEWED)
                 self.assertFalse(self.is_renewed(1))
+                # The journal has no other name any more.
+                self.assertEqual(self.kept(), [])
                 self.assertTrue(self.ask(gateway, 2))
                 failing.clear()
                 # The pause is over after this tick.

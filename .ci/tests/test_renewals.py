@@ -289,6 +289,18 @@ class Renewals(Commands):
                 self.assertEqual(gateway.finish("tick", "quit")[::2], (0, FAILS + WORKS))
         self.resumes(2)
 
+    def test_a_file_that_somebody_cut_gets_no_zeros(self):
+        """A write fails after somebody has cut the file, so the gateway can't cut off what it wrote."""
+        failing = []
+        decide = lambda call: errno.ENOSPC if failing and call.file() == str(self.journal) else None
+        with Kernel(["write"], decide) as kernel, self.serving(kernel=kernel) as gateway:
+            self.assertTrue(self.ask(gateway, 1))
+            front = self.journal.read_text()[:20]
+            self.journal.write_text(front)
+            failing.append(True)
+            self.assertFalse(self.ask(gateway, 2))
+            self.assertEqual(self.journal.read_text(), front)
+
     def test_a_full_disk_with_room_for_ticks_is_reported_once(self):
         """The report that the journal can be written again waits for a message."""
         failing = []
